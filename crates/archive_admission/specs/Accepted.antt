@@ -9,17 +9,17 @@ use Rattle.archive_admission.specs.File.{is_admissible}
 use Rattle.archive_admission.specs.declared.checking.AcceptedFile.{AcceptedFile}
 use Rattle.archive_admission.specs.declared.checking.AcceptedFile.TheVariants.{Thin, Universal}
 
--- what the check of a part found out, of one that begins as an image; of another nothing
+-- the facts from the check of a part, if it begins as an image; otherwise there are none
 abbrev pub AreFactsOf : List ℕ → Option SliceFacts → Type 0
 AreFactsOf part None = is_admissible part ≡ false
 AreFactsOf part (Some facts) = IsCheckedOf part facts
 
--- at the place of each of these parts stands what was found of it
+-- for each of these parts, at its index, the facts from its check
 abbrev pub AreFound : List (List ℕ) → List (Option SliceFacts) → Type 0
 AreFound parts found =
     (i : ℕ) (part : List ℕ) → slice_get parts i ≡ Some part → AreFactsOf part (slice_index_or found i None)
 
--- by its kind: a thin file is a slice, and a universal one is read as that, with what was found of its parts
+-- by its kind: a thin file is a slice, and a universal file is read as such, with the facts of its parts
 abbrev pub IsAcceptedAs : List ℕ → AcceptedFile → Type 0
 IsAcceptedAs file (Thin slice) = (kind_of file ≡ thin_kind) × (slice ≡ file)
 IsAcceptedAs file (Universal universal found) =

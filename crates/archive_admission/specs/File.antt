@@ -1,4 +1,4 @@
--- Which files are taken, and why others are not (mach-o/fat.h, mach-o/loader.h).
+-- The files that are accepted, and the faults of the others (mach-o/fat.h, mach-o/loader.h).
 use Rattle.std.specs.Prelude.{◌≡◌, ◌≢◌, ◌<◌, ℕ, Bool, true, List, [], ◌∷◌, Option, Some, None, All, nat_eq, filter}
 use Rattle.std.specs.Prelude.{slice_get, if◌then◌else◌}
 use Rattle.std.specs.List.{starts_with}
@@ -24,30 +24,30 @@ parts_of Other file = []
 unfoldable pub parts : List ℕ → List (List ℕ)
 parts file = parts_of (kind_of file) file
 
--- whether a part begins as a 64-bit little-endian image does: with MH_MAGIC_64
+-- whether a part begins like a 64-bit little-endian image: with MH_MAGIC_64
 abbrev pub is_admissible : List ℕ → Bool
 is_admissible part = starts_with nat_eq part mh_magic_64
 
--- the slice that a part is that begins so; another part is none
+-- the slice of a part that begins like an image; another part has none
 abbrev pub slice_in : List ℕ → Option (List ℕ)
 slice_in part = if is_admissible part then Some part else None
 
--- those parts of a file that begin so
+-- the parts of a file that begin like an image
 abbrev pub admissible : List ℕ → List (List ℕ)
 admissible file = filter is_admissible (parts file)
 
--- the file has parts: it is thin, or it is universal and each slice that its table names is there
+-- the file has parts: it is thin, or it is universal and each slice in its table is within the file
 pub record HasParts (file : List ℕ) : Type 0 where
   pub kind : kind_of file ≢ Other
   pub table : is_fat (kind_of file) ≡ true → IsUniversal file
 
--- the file is accepted: each of its admissible parts is a slice, and there is one
+-- the file is accepted: each of its admissible parts is a slice, and there is at least one
 pub record IsAcceptedFile (file : List ℕ) : Type 0 where
   pub parts_are : HasParts file
   pub valid : All IsValid (admissible file)
   pub some : admissible file ≢ []
 
--- part i of the file is admissible, and this is why it is no slice
+-- part i of the file is admissible, and is no slice, with this fault
 pub record IsRefusedPart (file : List ℕ) (i : ℕ) (fault : SliceFault) : Type 0 where
   pub part : List ℕ
   pub is : slice_get (parts file) i ≡ Some part
@@ -59,7 +59,7 @@ pub record IsFirstRefused (file : List ℕ) (i : ℕ) (fault : SliceFault) : Typ
   pub here : IsRefusedPart file i fault
   pub first : (j : ℕ) (other : SliceFault) → j < i → IsRefusedPart file j other → ⊥
 
--- why no part of a file is taken; a case says that those before it do not apply
+-- why no part of a file is admitted; each fault implies that those before it do not apply
 abbrev pub IsTakeFault : List ℕ → TakeFault → Type 0
 IsTakeFault file Unrecognised = kind_of file ≡ Other
 IsTakeFault file (Fat fault) = (is_fat (kind_of file) ≡ true) × IsFatFault file fault

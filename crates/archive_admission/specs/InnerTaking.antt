@@ -1,4 +1,4 @@
--- What an accepted file is of: the word of an inner function, and of `take_accepted`.
+-- The bytes of an accepted file: the term of an inner function, and of `take_accepted`.
 use Rattle.std.specs.Prelude.{ℕ, List}
 use Rattle.archive_admission.specs.declared.checking.AcceptedFile.{AcceptedFile}
 use Rattle.archive_admission.specs.declared.checking.AcceptedFile.TheVariants.{Thin, Universal}

@@ -1,4 +1,4 @@
-//! Whether a file is accepted, before anything of it is taken.
+//! Checks a file before any of it is admitted.
 ghost use Rattle.std.specs.Prelude.{◌≡◌, ◌≢◌, true, IfOk, IfErr, OnOk, is_some};
 ghost use Rattle.fat_slices.specs.Kind.{kind_of, is_fat};
 ghost use Rattle.archive_core.specs.Valid.{IsSliceFault};
@@ -11,13 +11,13 @@ use archive_core::laws::one_slice_fault;
 use archive_core::{CheckedSlice, Slice, SliceFacts};
 use fat_slices::{FileKind, MOST_ARCHES, Universal, kind};
 
-/// An accepted file, as its check found it. It borrows the file's bytes.
+/// An accepted file, with the results of its check. It borrows the file's bytes.
 #[derive(Drop)]
 pub enum AcceptedFile<'a> {
-    /// A thin file, which is its only part: the slice that it is.
+    /// A thin file: its only part is the slice.
     Thin(CheckedSlice<'a>),
-    /// A universal file, and at the place of each part what its check found out; of one that does not begin as an
-    /// image nothing.
+    /// A universal file, and for each part, at its index, the facts from its check; none for a part that does not begin
+    /// like an image.
     Universal(Universal<'a>, [Option<SliceFacts>; MOST_ARCHES]),
 }
 
@@ -27,7 +27,7 @@ pub(crate) fn begins_as_image(part: &[u8]) -> bool
     matches!(kind(part), FileKind::Thin)
 }
 
-/// Checks the part at an index, where it begins as an image; one that does has to be a slice.
+/// Checks the part at an index; if it begins like an image, it must be a slice.
 fn check_part(index: u64, part: &[u8]) -> Result<Option<SliceFacts>, TakeFault>
     ensures begins { IfOk result (λ found. is_some found ≡ is_admissible part.now) }
     ensures found { IfOk result (λ found. AreFactsOf part.now found) }
@@ -43,7 +43,7 @@ fn check_part(index: u64, part: &[u8]) -> Result<Option<SliceFacts>, TakeFault>
     }
 }
 
-/// Checks a file that is its only part.
+/// Checks a thin file, which is its only part.
 fn check_thin(file: &[u8]) -> Result<CheckedSlice<'_>, TakeFault>
     requires { kind_of file.now ≡ FileKind.Thin }
     ensures accepted { OnOk result (IsAcceptedFile file.now) }
@@ -81,8 +81,8 @@ fn check_universal(file: &[u8]) -> Result<AcceptedFile<'_>, TakeFault>
     }
 }
 
-/// Tests whether a file is accepted, and gives what it was accepted as, or else its fault, which is never want of
-/// memory. Takes no memory.
+/// Checks whether a file is accepted, and returns the accepted file, or else its fault, which is never `OutOfMemory`.
+/// Allocates no memory.
 pub fn check_file(file: &[u8]) -> Result<AcceptedFile<'_>, TakeFault>
     ensures accepted { OnOk result (IsAcceptedFile file.now) }
     ensures found { IfOk result (λ accepted. IsAcceptedAs file.now accepted) }

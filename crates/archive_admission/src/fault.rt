@@ -1,25 +1,25 @@
-//! Why no slice of a file is taken.
+//! Why no slice of a file is admitted.
 
 use archive_core::SliceFault;
 use fat_slices::FatFault;
 use std::alloc::{AllocError, AllocFailed};
 
-/// Why no slice of a file is taken.
+/// Why no slice of a file is admitted.
 ///
-/// The faults are tested in this order, and the third over all slices, so where several apply it is the
-/// first of them here.
+/// The faults are tested in this order, and the third over all slices, so if several apply it is the first of them
+/// here.
 #[derive(Clone, Copy, Debug, PartialEq, Eq)]
 pub enum TakeFault {
     /// The file begins with none of MH_MAGIC_64 (little-endian), FAT_MAGIC and FAT_MAGIC_64.
     Unrecognised,
-    /// The file begins as a universal one and is none.
+    /// The file begins like a universal one and is none.
     Fat(FatFault),
-    /// The slice at this index of the file, counted from 0, begins as a 64-bit little-endian image and is
-    /// none that an archive keeps. It is the first such slice. A thin file has the slice 0 alone.
+    /// The slice at this index of the file, counted from 0, begins like a 64-bit little-endian image and is not one
+    /// that an archive keeps. It is the first such slice. A thin file has only the slice 0.
     Slice(u64, SliceFault),
-    /// No slice begins as a 64-bit little-endian image.
+    /// No slice begins like a 64-bit little-endian image.
     NothingToAdmit,
-    /// The file is accepted, and a growth was refused.
+    /// The file is accepted, and memory ran out.
     OutOfMemory,
 }
 

@@ -1,7 +1,7 @@
-//! What holds of files, and of what their taking makes.
+//! Laws about files, and about the results of admitting them.
 //!
-//! Each law is the contract of a function that does nothing but call laws of the crates below, and speaks of the
-//! definitions alone: a caller that wants a law calls its function.
+//! Each law is the contract of a function that only calls laws of the crates below. Its clauses are about the
+//! definitions alone: a caller that needs a law calls its function.
 ghost use Rattle.std.specs.Prelude.{◌≡◌, ◌≢◌, ◌⊎◌, ◌↔◌, ℕ, Contains, List, Some, true};
 ghost use Rattle.std.specs.Prelude.{false, length, take, filter, slice_get};
 ghost use Rattle.std.specs.FinSet as set;
@@ -18,7 +18,7 @@ ghost use Rattle.archive_admission.specs.declared.taken.Taken.TheVariants.{Known
 use archive_core::laws::one_slice_fault;
 use fat_slices::fat_laws::one_fault as one_fat_fault;
 
-/// A file is accepted or has a fault other than want of memory, never both and never two faults.
+/// A file is accepted or has a fault other than `OutOfMemory`, never both and never two faults.
 pub fn one_take_fault()
     ensures some { (file : List ℕ) → IsAcceptedFile file ⊎ ((f : TakeFault) × (f ≢ OutOfMemory) × IsTakeFault file f) }
     ensures one { (file : List ℕ) (f g : TakeFault) → IsTakeFault file f → IsTakeFault file g → f ≡ g }
@@ -28,8 +28,9 @@ pub fn one_take_fault()
     one_fat_fault();
 }
 
-/// There is a row a part, in the order of the file: it says of an admissible part what became of it over the old
-/// content with the admissible parts before it. A slice that is there is known, and so is one that a retirement covers.
+/// There is one row for each part, in the order of the file: the row of an admissible part is its result on the old
+/// content with the admissible parts before it. A slice that is present is known, and so is one that a retirement
+/// covers.
 pub fn rows_in_order()
     ensures number { (o : Operations) (file : List (List ℕ)) → length (taken_rows o file) ≡ length file }
     ensures skipped { (o : Operations) (file : List (List ℕ)) (i : ℕ) (part : List ℕ)
@@ -49,7 +50,7 @@ pub fn rows_in_order()
         → taken_of o part ≡ Known (key_of part) (record { 0 = sha256 part }) }
 {}
 
-/// What images make does not rest on their order, nor on repeats.
+/// The content after images does not depend on their order, nor on repeats.
 pub fn admitted_in_any_order()
     ensures { (o : Operations) (images others : List (List ℕ))
         → IsMade o
@@ -57,8 +58,8 @@ pub fn admitted_in_any_order()
         → admitted o images ≡ admitted o others }
 {}
 
-/// A taking that stopped half way left a content between the old one and the one asked for, and gives the latter when
-/// it is asked for again.
+/// An admission of a file that stopped half way left a content between the old one and the result, and has the same
+/// result if it is repeated.
 pub fn taking_resumed()
     ensures above { (file : List ℕ) (o mid : Operations)
         → IsContent o

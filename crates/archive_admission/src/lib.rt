@@ -1,24 +1,24 @@
-//! Files that an archive takes slices from: thin images and universal files.
+//! Files from which an archive admits slices: thin images and universal files.
 //!
-//! All slices of a file are taken or none. A file's parts are the file itself where it is thin, and the
-//! slices of its table where it is universal; a part that does not begin as a 64-bit little-endian image
-//! is skipped, and each other one has to be a slice:
+//! Either all slices of a file are admitted or none. The parts of a thin file are the file itself, those of a universal
+//! file the slices of its table; a part that does not begin like a 64-bit little-endian image is skipped, and each
+//! other part must be a slice:
 //!
-//! - `fault`: why no slice of a file is taken;
+//! - `fault`: why no slice of a file is admitted;
 //! - `checking`: whether a file is accepted;
-//! - `slicing`: the slices of an accepted file, each with its bytes to itself;
-//! - `taken`: what becomes of a slice;
-//! - `taking`: a file's slices taken into an archive;
-//! - [`laws`]: what holds of files, and of what their taking makes.
+//! - `slicing`: the slices of an accepted file, each with its own bytes;
+//! - `taken`: the result of a slice;
+//! - `taking`: admits a file's slices to an archive;
+//! - [`laws`]: laws about files, and about the results of admitting them.
 //!
 //! # Why it is so
 //!
-//! - A file is checked whole before it is taken, and what the check found out is handed on, so each slice is checked
-//!   and hashed once. That stands in an array of 32 items, as many as a file can have: memory is asked for only after
-//!   the check, so want of memory is reported of an accepted file alone.
-//! - A FILE that is neither thin nor universal is `Unrecognised`, and a part that does not begin as an image is
+//! - A file is checked whole before any of it is admitted, and the facts from the check are passed on, so each slice is
+//!   checked and hashed once. They are in an array of 32 items, the largest number of parts: memory is allocated only
+//!   after the check, so `OutOfMemory` is reported only for an accepted file.
+//! - A FILE that is neither thin nor universal is `Unrecognised`, and a part that does not begin like an image is
 //!   skipped, so `NotMachO64` is never the fault of a FILE.
-//! - Why a file is not taken (`TakeFault`) is here, since it is the lowest crate that can have it.
+//! - The fault of a file (`TakeFault`) is here, since this is the lowest crate that can have it.
 #![tactic(auto)]
 
 mod checking;

@@ -1,4 +1,4 @@
-//! The slices of an accepted file, each with its bytes to itself.
+//! The slices of an accepted file, each with its own bytes.
 ghost use Rattle.std.specs.Prelude.{◌≡◌, ◌<◌, ◌≤◌, ℕ, List, None, Some, map, length, slice_get, slice_index_or};
 ghost use Rattle.std.specs.Prelude.{IfOk, IfErr, OnOk};
 ghost use Rattle.fat_slices.specs.Kind.{kind_of};
@@ -12,8 +12,8 @@ use archive_core::{CheckedSlice, Slice, SliceFacts};
 use fat_slices::{FileKind, MOST_ARCHES};
 use memory::{Heap, NoMemory};
 
-/// The slice that a part is, by what its check found out. Its bytes are copied. A part of which nothing was found is
-/// none.
+/// The slice of a part, from the facts of its check. Its bytes are copied. Without facts the part is no slice. Fails
+/// only if memory runs out.
 fn slice_in(heap: Heap, part: &[u8], found: Option<SliceFacts>) -> Result<Option<Slice>, NoMemory>
     requires { AreFactsOf part.now found }
     ensures { IfOk result (λ slice. slice ≡ slice_in part.now) }
@@ -27,7 +27,7 @@ fn slice_in(heap: Heap, part: &[u8], found: Option<SliceFacts>) -> Result<Option
     }
 }
 
-/// What was found of the part at an index.
+/// The facts of the part at an index.
 fn facts_at(found: &[Option<SliceFacts>; MOST_ARCHES], index: u32) -> Option<SliceFacts>
     requires { index < MOST_ARCHES }
     ensures { result ≡ slice_index_or found.now index None }
@@ -36,7 +36,7 @@ fn facts_at(found: &[Option<SliceFacts>; MOST_ARCHES], index: u32) -> Option<Sli
 }
 
 impl<'a> AcceptedFile<'a> {
-    /// How many parts the file has.
+    /// The number of parts of the file.
     pub(crate) fn part_count(&self) -> u32
         requires { IsAcceptedAs (file_of self.now) self.now }
         ensures number { result ≡ length (parts (file_of self.now)) }
@@ -48,7 +48,7 @@ impl<'a> AcceptedFile<'a> {
         }
     }
 
-    /// The slice that the part at an index is, or none. Its bytes are copied.
+    /// The slice of the part at an index, or none. Its bytes are copied. Fails only if memory runs out.
     pub(crate) fn slice_at(&self, heap: Heap, index: u32) -> Result<Option<Slice>, NoMemory>
         requires accepted { IsAcceptedAs (file_of self.now) self.now }
         requires index { index < length (parts (file_of self.now)) }
@@ -92,8 +92,8 @@ fn slices_of(heap: Heap, accepted: &AcceptedFile<'_>) -> Result<Vec<Option<Slice
 
 /// The slices of a file, one for each part that is one, in the order of the file.
 ///
-/// All are checked before one is copied, each once. The bytes of a thin file are taken over without a copy. Memory is
-/// the vector's own.
+/// All are checked, each once, before one is copied. The bytes of a thin file are moved, not copied. Memory comes from
+/// the vector's own heap.
 ///
 /// # Errors
 ///

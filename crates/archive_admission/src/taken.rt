@@ -1,14 +1,14 @@
-//! What becomes of a slice.
+//! The result of admitting a slice.
 
 use archive_core::{Digest, SliceKey};
 
-/// What became of a slice of a file.
+/// The result of admitting a slice of a file.
 #[derive(Clone, Copy, Debug, PartialEq, Eq)]
 pub enum Taken {
-    /// The archive has it from now on.
+    /// The archive did not have it, and has it now.
     Added(SliceKey, Digest),
-    /// The archive had it before, or a retirement that covers it.
+    /// The archive had it, or has a retirement that covers it.
     Known(SliceKey, Digest),
-    /// It does not begin as a 64-bit little-endian image, the only ones that archives keep.
+    /// It does not begin like a 64-bit little-endian image; archives keep no others.
     Skipped,
 }

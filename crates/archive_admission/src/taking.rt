@@ -1,4 +1,4 @@
-//! The slices of a file taken into an archive.
+//! Admits the slices of a file to an archive.
 ghost use Rattle.std.specs.Prelude.{◌≡◌, [], ◌∷◌, ℕ, List, IfOk, OnOk, OnErr, filter, if◌then◌else◌};
 ghost use Rattle.archive_admission.specs.Accepted.{IsAcceptedAs};
 ghost use Rattle.archive_admission.specs.InnerTaking.{file_of};
@@ -10,7 +10,7 @@ use crate::checking::AcceptedFile;
 use archive_core::{Archive, Digest, Operation, Slice, SliceKey};
 use memory::{Heap, NoMemory};
 
-/// What became of a slice, by whether its admission changed the archive.
+/// The result of a slice, by whether its admission changed the archive.
 fn taken_if(changed: bool, key: SliceKey, digest: Digest) -> Taken
     ensures { result ≡ (if changed then Taken.Added key digest else Taken.Known key digest) }
 {
@@ -33,7 +33,7 @@ fn take_slice<A: Archive>(archive: &mut A, mut slice: Slice) -> Result<Taken, No
     Ok(taken_if(changed, key, digest))
 }
 
-/// Takes a part of a file, where it is a slice, and tells what became of it.
+/// Admits a part of a file, if it is a slice, and returns its result. Fails only if memory runs out.
 fn take_part<A: Archive>(archive: &mut A, slice: Option<Slice>) -> Result<Taken, NoMemory>
     ensures content { OnOk result ((part : List ℕ) → slice ≡ slice_in part
         → A.content archive.new ≡ admitted (A.content archive.old) (filter is_admissible (part ∷ []))) }
@@ -47,9 +47,9 @@ fn take_part<A: Archive>(archive: &mut A, slice: Option<Slice>) -> Result<Taken,
     }
 }
 
-/// Takes the slices of an accepted file, in their order, each copied at its turn, and gives a row a slice, in the order
-/// of the file. After want of memory some first ones of the slices may have been taken; `laws::taking_resumed` says
-/// what comes of taking them again.
+/// Admits the slices of an accepted file, in their order, each copied when it is next, and returns a row for each part,
+/// in the order of the file. If memory runs out, the first of the slices may have been admitted; `laws::taking_resumed`
+/// describes the result of a repeated call.
 pub fn take_accepted<A: Archive>(
     archive: &mut A,
     heap: Heap,

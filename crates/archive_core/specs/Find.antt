@@ -1,4 +1,4 @@
--- The answer of a search for a UUID: the retirements and the live slices under it.
+-- The answer of a search for a UUID: its retirements and its live slices.
 use Rattle.std.specs.Prelude.{◌≡◌, ◌↔◌, ℕ, Bool, true, false, not, List, ◌==◌, ◌&&◌, if◌then◌else◌, map, count_by}
 use Rattle.std.specs.Prelude.{Contains}
 use Rattle.std.specs.Ordering.{nat_cmp, on, then_cmp}
@@ -21,7 +21,7 @@ use Rattle.archive_core.specs.declared.find.FindState.TheVariants.{Retired, Imag
 use Rattle.archive_core.specs.declared.operations.Operation.{Operation}
 use Rattle.archive_core.specs.declared.operations.Operation.TheVariants.{Admit, Retire}
 
--- the key that an operation is under
+-- the key of an operation
 abbrev pub key_in : Operation → SliceKey
 key_in (Admit slice) = key_of slice
 key_in (Retire key digest) = key
@@ -34,21 +34,21 @@ arch_cmp = then_cmp (on (λ arch. arch.cputype) nat_cmp) (on (λ arch. arch.cpus
 abbrev pub find_cmp : Operation → Operation → Ordering
 find_cmp = then_cmp (on (λ operation. (key_in operation).arch) arch_cmp) (on record_bytes (slice_cmp nat_cmp))
 
--- a retirement of the content under the UUID, or the admission of a slice that is live there
+-- a retirement of the UUID in the content, or the admission of a live slice of the UUID
 abbrev pub IsFoundUnder : Operations → List ℕ → Operation → Type 0
 IsFoundUnder o uuid (Admit slice) = ((key_of slice).uuid ≡ uuid) × IsLive o (key_of slice) slice
 IsFoundUnder o uuid (Retire key digest) = (key.uuid ≡ uuid) × (set.contains o (retirement_record key digest.0) ≡ true)
 
--- a live slice is a companion by its filetype MH_DSYM, or else an image
+-- a live slice is a companion if its filetype is MH_DSYM, otherwise an image
 abbrev pub state_of : List ℕ → FindState
 state_of slice = if is_dsym_image slice then Dsym else Image
 
--- the SHA-256 of the slice that an operation admits, or the one that it retires
+-- the SHA-256 of the slice that an operation admits, or the digest of a retirement
 abbrev pub digest_in : Operation → Digest
 digest_in (Admit slice) = record { 0 = sha256 slice }
 digest_in (Retire key digest) = digest
 
--- what its row stands for
+-- the state in the row of an operation
 abbrev pub state_in : Operation → FindState
 state_in (Admit slice) = state_of slice
 state_in (Retire key digest) = Retired
@@ -57,7 +57,7 @@ state_in (Retire key digest) = Retired
 abbrev pub row_of : Operation → FindRow
 row_of operation = record { key = key_in operation; digest = digest_in operation; state = state_in operation }
 
--- what a search tells: one row for each retirement and each live slice of the UUID, by architecture, then by record
+-- the result of a search: one row for each retirement and each live slice of the UUID, by architecture, then by record
 pub record IsFinds (o : Operations) (uuid : List ℕ) (rows : List FindRow) : Type 0 where
   pub operations : List Operation
   pub ascending : IsStrictlySortedBy find_cmp operations
@@ -76,27 +76,27 @@ is_image Retired = false
 is_image Image = true
 is_image Dsym = false
 
--- two architectures are one
+-- whether two architectures are equal
 abbrev pub is_arch : ArchKey → ArchKey → Bool
 is_arch a b = (a.cputype == b.cputype) && (a.cpusubtype == b.cpusubtype)
 
--- two keys are one
+-- whether two keys are equal
 abbrev pub is_key : SliceKey → SliceKey → Bool
 is_key a b = bytes_eq a.uuid b.uuid && is_arch a.arch b.arch
 
--- a slice is a companion, where one is asked for, or else is none
+-- whether a slice is a companion, or, without the flag, is not one
 abbrev pub is_kind : Bool → List ℕ → Bool
 is_kind dsym slice = if dsym then is_dsym_image slice else not (is_dsym_image slice)
 
--- a row of a live companion of the architecture
+-- a row of a live companion with the architecture
 abbrev pub is_dsym_row : ArchKey → FindRow → Bool
 is_dsym_row arch row = is_arch row.key.arch arch && is_dsym row.state
 
--- a row of another live slice of the architecture
+-- a row of another live slice with the architecture
 abbrev pub is_image_row : ArchKey → FindRow → Bool
 is_image_row arch row = is_arch row.key.arch arch && is_image row.state
 
--- how many slices of an architecture answer, as rows tell it: the companions, or else the images
+-- the number of rows with an architecture whose slices answer: its companions, or its images if there are none
 abbrev pub answering_count : List FindRow → ArchKey → ℕ
 answering_count rows arch = if count_by (is_dsym_row arch) rows == 0 then count_by (is_image_row arch) rows
     else count_by (is_dsym_row arch) rows

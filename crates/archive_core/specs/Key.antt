@@ -1,4 +1,4 @@
--- A slice's key, and the bytes of a record that stand for it.
+-- A slice's key, and its bytes in a record.
 use Rattle.std.specs.Prelude.{◌≡◌, ℕ, ◌<◌, ◌^◌, List, ◌++◌, length}
 use Rattle.std.specs.Int.{w32, to_be_bytes}
 use Rattle.archive_core.specs.declared.keys.SliceKey.{SliceKey}

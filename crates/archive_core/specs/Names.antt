@@ -1,4 +1,4 @@
--- The answer of a search for a name: the places of symbols of that name in live slices.
+-- The answer of a search for a name: the rows of symbols with that name in live slices.
 use Rattle.std.specs.Prelude.{◌≡◌, ◌↔◌, ℕ, List, map, Contains}
 use Rattle.std.specs.Ordering.{nat_cmp, on, then_cmp}
 use Rattle.std.specs.declared.cmp.Ordering.{Ordering}
@@ -13,8 +13,8 @@ use Rattle.archive_core.specs.declared.keys.SliceKey.{SliceKey}
 use Rattle.archive_core.specs.declared.names.NameRow.{NameRow}
 use Rattle.archive_core.specs.declared.names.OwnedNameRow.{OwnedNameRow}
 
--- where a symbol stands: the key and the SHA-256 of its slice, its address, its section's number, and that section's
--- names
+-- a symbol of a slice: the key and the SHA-256 of the slice, the symbol's address, the number of its section, and the
+-- section's names
 pub record NameRecord : Type 0 where
   pub key : SliceKey
   pub digest : List ℕ
@@ -33,7 +33,7 @@ place_cmp = then_cmp (on (λ row. row.address) nat_cmp)
     (then_cmp (on (λ row. row.sect) nat_cmp)
     (then_cmp (on (λ row. row.segment) (slice_cmp nat_cmp)) (on (λ row. row.section) (slice_cmp nat_cmp))))
 
--- rows by key, then by digest, then by where the symbol stands in its slice
+-- rows by key, then by digest, then by the symbol's address and section
 abbrev pub name_cmp : NameRecord → NameRecord → Ordering
 name_cmp = then_cmp (then_cmp (on (λ row. row.key) key_cmp) (on (λ row. row.digest) (slice_cmp nat_cmp))) place_cmp
 
@@ -52,7 +52,7 @@ name_row slice found = record {
 abbrev pub names_in : List ℕ → List ℕ → List NameRecord
 names_in name slice = map (name_row slice) (named slice name)
 
--- the row of a candidate of the name in a live slice
+-- the row of a candidate with the name in a live slice
 pub record IsNameRow (o : Operations) (name : List ℕ) (row : NameRecord) : Type 0 where
   pub slice : List ℕ
   pub valid : IsValid slice
@@ -61,12 +61,12 @@ pub record IsNameRow (o : Operations) (name : List ℕ) (row : NameRecord) : Typ
   pub candidate : Contains (named slice name) found
   pub row_is : row ≡ name_row slice found
 
--- what a search for a name tells: the rows of all candidates of the name in live slices, each once, ascending
+-- the result of a search for a name: the rows of all candidates with the name in live slices, each once, ascending
 pub record IsNames (o : Operations) (name : List ℕ) (rows : List NameRecord) : Type 0 where
   pub ascending : IsStrictlySortedBy name_cmp rows
   pub exactly : (row : NameRecord) → Contains rows row ↔ IsNameRow o name row
 
--- a row, without where its names lie
+-- a row, without the memory of its names
 abbrev pub name_view : NameRow → NameRecord
 name_view row = record {
   key = row.key;
@@ -77,7 +77,7 @@ name_view row = record {
   section = row.section.now;
 }
 
--- a row that owns them, without where its names lie
+-- a row that owns its names, without their memory
 abbrev pub owned_name_view : OwnedNameRow → NameRecord
 owned_name_view row = record {
   key = row.key;

@@ -1,4 +1,4 @@
--- Operations, and the byte strings that stand for them: their records.
+-- Operations, and their records: the byte strings that encode them.
 use Rattle.std.specs.Prelude.{◌≡◌, ℕ, List, ◌∷◌, ◌++◌, length, ◌⊎◌}
 use Rattle.std.specs.Int.{w64, to_be_bytes}
 use Rattle.archive_core.specs.Key.{IsKey, key_bytes}
@@ -22,13 +22,13 @@ admission_record slice = 2 ∷ admission slice
 abbrev pub retirement_record : SliceKey → List ℕ → List ℕ
 retirement_record key digest = 1 ∷ (key_bytes key ++ digest)
 
--- these bytes are the record of an admission
+-- the bytes are the record of an admission
 pub record Admits (bytes : List ℕ) : Type 0 where
   pub slice : List ℕ
   pub valid : IsValid slice
   pub is : bytes ≡ admission_record slice
 
--- these bytes are the record of a retirement
+-- the bytes are the record of a retirement
 pub record Retires (bytes : List ℕ) : Type 0 where
   pub key : SliceKey
   pub digest : List ℕ
@@ -36,11 +36,11 @@ pub record Retires (bytes : List ℕ) : Type 0 where
   pub long : length digest ≡ 32
   pub is : bytes ≡ retirement_record key digest
 
--- these bytes are the record of an operation
+-- the bytes are the record of an operation
 abbrev pub IsRecord : List ℕ → Type 0
 IsRecord bytes = Admits bytes ⊎ Retires bytes
 
--- an operation whose parts are what their types hold: a valid slice, or a key and the 32 bytes of a digest
+-- an operation with valid fields: a valid slice, or a key and a digest of 32 bytes
 abbrev pub IsOperation : Operation → Type 0
 IsOperation (Admit slice) = IsValid slice
 IsOperation (Retire key digest) = IsKey key × (length digest.0 ≡ 32)
@@ -50,11 +50,11 @@ abbrev pub record_bytes : Operation → List ℕ
 record_bytes (Admit slice) = admission_record slice
 record_bytes (Retire key digest) = retirement_record key digest.0
 
--- the operation that is borrowed
+-- the operation that a borrowed record contains
 abbrev pub operation_borrowed : Record → Operation
 operation_borrowed (Borrowed_Admit slice) = Admit slice
 operation_borrowed (Borrowed_Retire key digest) = Retire key digest
 
--- the record of an operation that is borrowed
+-- the bytes of a borrowed record
 abbrev pub borrowed_bytes : Record → List ℕ
 borrowed_bytes operation = record_bytes (operation_borrowed operation)

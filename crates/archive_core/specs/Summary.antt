@@ -1,4 +1,4 @@
--- The entries that a summary has of a content, and the part of a content that it does not name.
+-- The entries of a content in a summary, and the part of a content that a summary lacks.
 use Rattle.std.specs.Prelude.{◌≡◌, ℕ, List, ◌∷◌, Bool, true, not, ◌||◌, if◌then◌else◌, map, drop}
 use Rattle.std.specs.Ordering.{nat_cmp}
 use Rattle.std.specs.Cmp.Lexicographic.{slice_cmp}
@@ -12,8 +12,8 @@ use Rattle.archive_core.specs.Content.{Operations, is_admission, key_and_digest}
 abbrev pub Entries : Type 0
 Entries = set.FinSet (slice_cmp nat_cmp)
 
--- the entry of an operation, by its record: of an admission tag 2, the key and the SHA-256 of the slice, in place of
--- its length and the slice; of a retirement its record
+-- the entry of an operation, from its record: that of an admission is tag 2, the key and the SHA-256 of the slice,
+-- without its length and bytes; that of a retirement is its record
 unfoldable pub entry : List ℕ → List ℕ
 entry r = if is_admission r then 2 ∷ key_and_digest r else r
 
@@ -21,16 +21,16 @@ entry r = if is_admission r then 2 ∷ key_and_digest r else r
 unfoldable pub summary : Operations → Entries
 summary o = set.from_list (map entry (listing o))
 
--- an entry is known to a content: it is that of an operation in it, or of a slice that a retirement in it covers, whose
--- record is the entry with tag 1
+-- a content knows an entry: the entry is that of an operation in the content, or of a slice that a retirement in it
+-- covers; the record of that retirement is the entry with tag 1
 abbrev pub is_known : Operations → List ℕ → Bool
 is_known o e = set.contains (summary o) e || set.contains o (1 ∷ drop 1 e)
 
--- the operations of a content whose entries are not among these
+-- the operations of a content whose entries are not in this set
 unfoldable pub delta : Operations → Entries → Operations
 delta o s = set.retain o (λ r. not (set.contains s (entry r)))
 
--- no slice of the one content has the SHA-256 of a different slice of the other
+-- no slice of the first content has the SHA-256 of a different slice of the second
 abbrev pub DigestsDiffer : Operations → Operations → Type 0
 DigestsDiffer o p = (a b : List ℕ) → set.contains o (admission_record a) ≡ true
     → set.contains p (admission_record b) ≡ true → sha256 a ≡ sha256 b → a ≡ b

@@ -1,4 +1,4 @@
--- Which bytes are a slice, why others are none, and the key of a slice.
+-- The bytes that are a slice, the faults of other bytes, and the key of a slice.
 use Rattle.std.specs.Prelude.{◌≡◌, ℕ, List, Option, MatchOption}
 use Rattle.macho_image.specs.Fault.{IsImage, IsImageFault}
 use Rattle.macho_image.specs.Contents.{uuid_of, arch_of, IsRead}
@@ -18,17 +18,17 @@ pub record IsValid (bytes : List ℕ) : Type 0 where
   pub image : IsImage bytes
   pub symbols : HasSymbols bytes
 
--- why bytes are no slice: they are no image, or they are one and its symbols cannot be read
+-- the fault of bytes that are no slice: they are no image, or the symbols of the image cannot be read
 abbrev pub IsSliceFault : List ℕ → SliceFault → Type 0
 IsSliceFault bytes (Image fault) = IsImageFault bytes fault
 IsSliceFault bytes (Symbols fault) = IsImage bytes × IsSymbolFault bytes fault
 
--- why bytes are not admitted: they are no slice, or they are one and memory was refused
+-- the fault of bytes that are not admitted: they are no slice, or they are a slice and memory ran out
 abbrev pub IsAdmitFault : List ℕ → AdmitFault → Type 0
 IsAdmitFault bytes (Slice fault) = IsSliceFault bytes fault
 IsAdmitFault bytes OutOfMemory = IsValid bytes
 
--- the key of a slice: its LC_UUID, and cputype and cpusubtype of its header, the high byte of the latter cleared
+-- the key of a slice: its LC_UUID, and the cputype and cpusubtype of its header, the latter with its high byte cleared
 -- (mach/machine.h: CPU_SUBTYPE_MASK)
 unfoldable pub key_of : List ℕ → SliceKey
 key_of bytes = record {
@@ -36,12 +36,12 @@ key_of bytes = record {
   arch = record { cputype = (arch_of bytes).0; cpusubtype = (arch_of bytes).1 };
 }
 
--- the digest, where there is one, is the SHA-256 of the slice
+-- the digest, if there is one, is the SHA-256 of the slice
 abbrev pub IsDigestOf : List ℕ → Option Digest → Type 0
 IsDigestOf slice digest = MatchOption digest (Unit {0}) (λ d. d.0 ≡ sha256 slice)
 
--- what is found out of a slice: the bytes are valid, this is their key, and where their symbols lie, and their digest
--- where it was asked for
+-- the facts of a slice: the bytes are valid, and the facts hold their key, the offsets of their symbols, and their
+-- digest if it was computed
 pub record IsCheckedOf (bytes : List ℕ) (facts : SliceFacts) : Type 0 where
   pub image : IsRead bytes facts.key.uuid facts.symtab
   pub symbols : HasSymbols bytes

@@ -1,4 +1,4 @@
-//! What an archive is.
+//! The trait of an archive.
 ghost use Rattle.std.specs.Prelude.{◌≡◌, ◌<◌, ◌↔◌, IfOk, OnOk, OnErr, map, slice_index_or, []};
 ghost use Rattle.std.specs.FinSet as set;
 ghost use Rattle.join_core.specs.Listing.{listing};
@@ -15,7 +15,7 @@ use memory::{Heap, NoMemory};
 use std::marker::Model;
 use uuid::Uuid;
 
-/// The content of an archive, as contracts see it: a set of records. No value of it is made.
+/// The content of an archive, as contracts see it: a set of records. No value of this type exists at run time.
 pub struct Contents {
     nothing: (),
 }
@@ -33,18 +33,17 @@ impl Model for Contents {
     ghost view = { λ _. set.empty };
 }
 
-/// An archive: a set of operations that joins.
+/// An archive: a set of operations with a join.
 ///
-/// Its records stand in ascending byte order, as an archive's text has them. An archive keeps the
-/// heap that it was made with.
+/// Its records are in ascending byte order, as in an archive's text. An archive keeps the heap that it was created
+/// with.
 pub trait Archive: Join<Content = Contents> {
     /// The archive without operations.
     fn empty(heap: Heap) -> Self
         ensures { Self.content result ≡ set.empty };
 
-    /// Takes an operation, and answers whether that changed the content. Refused for want of memory
-    /// alone; the operation is then dropped, and a caller that makes the call again has kept a copy
-    /// (`Operation::copy`), or makes it again of the bytes that it came from.
+    /// Adds an operation, and returns whether the content changed. Fails only if memory runs out; the operation is then
+    /// dropped. To call again, a caller keeps a copy (`Operation::copy`), or makes the operation again from its bytes.
     fn take(&mut self, operation: Operation) -> Result<bool, NoMemory>
         ensures taken { OnOk result (Self.content self.new
             ≡ with_record (Self.content self.old) (record_bytes operation)) }
@@ -55,26 +54,26 @@ pub trait Archive: Join<Content = Contents> {
     fn holds(&self, operation: &Operation) -> bool
         ensures { result ≡ set.contains (Self.content self.now) (record_bytes operation.now) };
 
-    /// The retirements and the live slices under a UUID, a row for each, by `cputype` and `cpusubtype`,
-    /// then in the order of their records. Refused for want of memory alone.
+    /// The retirements and the live slices with a UUID, one row for each, by `cputype` and `cpusubtype`, then in the
+    /// order of their records. Fails only if memory runs out.
     fn find(&self, uuid: &Uuid) -> Result<Vec<FindRow, Heap>, NoMemory>
         ensures { IfOk result (λ rows. IsFinds (Self.content self.now) uuid.now rows.items) };
 
-    /// What the answering slices of a key tell of an address: the live companions, if there are any,
-    /// or else the other live slices. Refused for want of memory alone, which is asked for only where
-    /// several answer.
+    /// The symbols that the answering slices of a key have for an address. The live companions answer; if there are
+    /// none, the other live slices answer. Fails only if memory runs out: memory is needed only if several slices
+    /// answer.
     fn lookup(&self, key: &SliceKey, asked: Where) -> Result<Answer<'_>, NoMemory>
         ensures answer { IfOk result (λ answer. IsAnswer (Self.content self.now) key.now asked (answer_view answer)) }
         ensures memory { OnErr result (IsConflict (Self.content self.now) key.now) };
 
-    /// The answering slices of a key, in the order of their records. Refused for want of memory alone.
+    /// The answering slices of a key, in the order of their records. Fails only if memory runs out.
     fn answering_slices(&self, key: &SliceKey) -> Result<Vec<&Slice, Heap>, NoMemory>
         ensures { IfOk result (λ slices.
             AreAnswering (Self.content self.now) key.now (map (λ slice. slice.now) slices.items)) };
 
-    /// Where symbols of a name stand in live slices: a row for each, by key, digest and address, then by the number
-    /// and the names of the section; symbols that are alike in all of these have one row. The name has no NUL at its
-    /// end. Refused for want of memory alone.
+    /// The symbols with a name in live slices: one row for each, by key, digest and address, then by the number and the
+    /// names of the section; symbols that are equal in all of these have one row. The name does not end with a NUL.
+    /// Fails only with `NoMemory`.
     fn find_name(&self, name: &[u8]) -> Result<Vec<NameRow<'_>, Heap>, NoMemory>
         ensures { IfOk result (λ rows. IsNames (Self.content self.now) name.now (map name_view rows.items)) };
 
@@ -83,7 +82,7 @@ pub trait Archive: Join<Content = Contents> {
         ensures len { result ≡ set.len (Self.content self.now) }
         ensures content { IsContent (Self.content self.now) };
 
-    /// The operation at an index, from 0 on, among all in ascending order of their records.
+    /// The operation at an index, from 0, among all in ascending order of their records.
     fn record_at(&self, index: u64) -> Record<'_>
         requires { index < set.len (Self.content self.now) }
         ensures { borrowed_bytes result ≡ slice_index_or (listing (Self.content self.now)) index [] };
@@ -93,10 +92,10 @@ pub trait Archive: Join<Content = Contents> {
     ghost below_is: { (o p : Operations) → Self.Join.below o p ↔ IsBelow o p };
 }
 
-/// Joins an archive with another one of its type, and takes over what that holds without a copy. Refused for want of
-/// memory alone; a part of `other` may then have been taken in, and `other` is dropped. A caller that makes the call
-/// again makes `other` again from where it had it, as by reading its text once more; `contents_join` of `laws_archive`
-/// (`resumed`) says that this gives what the first call would have given.
+/// Joins an archive with another one of its type, whose slices are moved and not copied. Fails only if memory runs out;
+/// a part of `other` may then have been added, and `other` is dropped. To call again, a caller makes `other` again from
+/// its source, for example by reading its text once more; `contents_join` of `laws_archive` (`resumed`) says that the
+/// result is then that of a first call without a failure.
 pub fn take_all<A: Archive>(archive: &mut A, other: A) -> Result<(), NoMemory>
     ensures joined { OnOk result (A.content archive.new ≡ joined (A.content archive.old) (A.content other)) }
     ensures refused { OnErr result

@@ -1,4 +1,4 @@
-//! Why bytes are no slice, or are not admitted.
+//! Faults of bytes that are no slice, or are not admitted.
 use macho_image::ImageFault;
 use macho_symbols::SymbolFault;
 
@@ -11,12 +11,11 @@ pub enum SliceFault {
     Symbols(SymbolFault),
 }
 
-/// Why bytes are not admitted. The bytes are checked first: memory is asked for only where they
-/// are a slice.
+/// Why bytes are not admitted. The bytes are checked first: memory is allocated only if they are a slice.
 #[derive(Clone, Copy, Debug, PartialEq, Eq)]
 pub enum AdmitFault {
     /// They are no slice.
     Slice(SliceFault),
-    /// They are a slice, and a growth was refused.
+    /// They are a slice, and memory ran out.
     OutOfMemory,
 }

@@ -1,19 +1,19 @@
-//! What a search for a UUID tells, and what a list of all tells.
+//! The rows of a search for a UUID, and of a list of all slices.
 use crate::{Digest, Record, SliceKey};
 use macho_image::Image;
 
 /// A retirement, or a live slice.
 #[derive(Clone, Copy, Debug, PartialEq, Eq)]
 pub struct FindRow {
-    /// Its key.
+    /// The key of the retirement or slice.
     pub key: SliceKey,
-    /// The SHA-256 of the slice's bytes, or the one that the retirement names.
+    /// The SHA-256 of the slice's bytes, or the digest of the retirement.
     pub digest: Digest,
-    /// Which of the two it is, and of which kind a slice.
+    /// Whether the row is a retirement, an image or a companion.
     pub state: FindState,
 }
 
-/// What a row stands for.
+/// The state in a row.
 #[derive(Clone, Copy, Debug, PartialEq, Eq)]
 pub enum FindState {
     /// A retirement, whether a slice that it covers was admitted or not.
@@ -31,7 +31,7 @@ impl FindRow {
     ghost use Rattle.archive_core.specs.Record.{IsOperation, operation_borrowed};
     ghost use Rattle.archive_core.specs.declared.operations.Operation.TheVariants.{Retire};
 
-    /// The row of a record. Its slice is hashed where that was not done before.
+    /// The row of a record. The slice is hashed if its digest is not kept.
     pub fn of(record: &Record<'_>) -> FindRow
         ensures row { result ≡ row_of (operation_borrowed record.now) }
         ensures operation { IsOperation (operation_borrowed record.now) }
@@ -65,7 +65,7 @@ impl FindState {
     ghost use Rattle.std.specs.Prelude.{◌≡◌};
     ghost use Rattle.archive_core.specs.Find.{state_of};
 
-    /// What a live slice is, by its image.
+    /// The state of a live slice, from its image.
     pub fn of_image(image: &Image<'_>) -> FindState
         ensures { result ≡ state_of image.now }
     {

@@ -1,4 +1,4 @@
-//! What holds of the faults of a slice.
+//! Laws about the faults of a slice.
 ghost use Rattle.std.specs.Prelude.{◌≡◌, ◌⊎◌, ℕ, List};
 ghost use Rattle.archive_core.specs.Valid.{IsValid, IsSliceFault};
 ghost use Rattle.archive_core.specs.declared.faults.SliceFault.{SliceFault};

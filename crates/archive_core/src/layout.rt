@@ -1,4 +1,4 @@
-//! The bytes of keys and of retirements, as they stand in records.
+//! The bytes of keys and of retirements in records.
 ghost use Rattle.std.specs.Prelude.{◌≡◌, ◌∷◌, ◌++◌, length};
 ghost use Rattle.archive_core.specs.Key.{key_bytes};
 ghost use Rattle.archive_core.specs.Record.{retirement_record};
@@ -9,10 +9,10 @@ use uuid::Uuid;
 /// The tag of a retirement's record.
 pub const RETIREMENT: u8 = 1;
 
-/// How many bytes a retirement's record has: a tag, a key and a digest.
+/// The length of a retirement's record in bytes: a tag, a key and a digest.
 pub const RETIREMENT_LEN: usize = 57;
 
-// A UUID has sixteen bytes.
+// The sixteen bytes of a UUID.
 fn uuid_bytes(uuid: &Uuid) -> &[u8]
     ensures bytes { result.now ≡ uuid.now }
     ensures sixteen { length result.now ≡ 16 }
@@ -20,7 +20,7 @@ fn uuid_bytes(uuid: &Uuid) -> &[u8]
     uuid.as_bytes()
 }
 
-// Lays the bytes of a key.
+// Writes the 24 bytes of a key into `part`.
 fn lay_key(part: &mut [u8], key: &SliceKey)
     requires { length part.old ≡ 24 }
     ensures { part.new ≡ key_bytes key.now }
@@ -30,7 +30,7 @@ fn lay_key(part: &mut [u8], key: &SliceKey)
     part[20..].copy_from_slice(&key.arch.cpusubtype.to_be_bytes());
 }
 
-/// The bytes of a key, as they stand after a record's tag.
+/// The bytes of a key, which follow the tag in a record.
 pub fn key_prefix(key: &SliceKey) -> [u8; 24]
     ensures { result ≡ key_bytes key.now }
 {

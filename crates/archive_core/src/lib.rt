@@ -1,23 +1,22 @@
-//! The content of an archive of Mach-O slices, and what an archive that keeps one is.
+//! The content of an archive of Mach-O slices, and the trait of an archive with such a content.
 //!
-//! An archive keeps a set of operations: admissions of slices and retirements. It is the two-phase
-//! set of Shapiro, Preguiça, Baquero and Zawirski (INRIA RR-7506, 2011): what was removed never comes
-//! back, and two archives join by taking in each other's operations. In two points it differs. A
-//! retirement may come before the admission that it covers, and is kept. And a slice that is retired
-//! is not kept: where its retirement comes in it is dropped, with its bytes, and after that it is not
-//! taken.
+//! An archive keeps a set of operations: admissions of slices and retirements. It is the two-phase set of Shapiro,
+//! Preguiça, Baquero and Zawirski (INRIA RR-7506, 2011): a removed slice never comes back, and two archives join by
+//! adding each other's operations. It differs in two points. A retirement may arrive before the admission that it
+//! covers, and is kept. And a retired slice is not kept: when its retirement arrives, the slice and its bytes are
+//! dropped, and later admissions of it are ignored.
 //!
-//! - `keys`: under what a slice is kept;
-//! - `faults`: why bytes are no slice, or are not admitted;
+//! - `keys`: the keys of slices;
+//! - `faults`: faults of bytes that are no slice, or are not admitted;
 //! - `slices`: the bytes of a valid image;
-//! - `layout`: the bytes of keys and of retirements, as they stand in records;
-//! - `retirements`: retirements that came, and the slices that they cover;
+//! - `layout`: the bytes of keys and of retirements in records;
+//! - `retirements`: retirements, and the slices that they cover;
 //! - `operations`: admissions and retirements, with their records;
-//! - `find`: what a search for a UUID tells;
-//! - `lookup`: what is asked of a key, and what is answered;
-//! - `names`: what a search for a name tells;
+//! - `find`: the rows of a search for a UUID;
+//! - `lookup`: the address that is asked for under a key, and the answer;
+//! - `names`: the rows of a search for a name;
 //! - `archives`: the trait [`Archive`];
-//! - [`laws`]: what holds of the faults of a slice.
+//! - [`laws`]: laws about the faults of a slice.
 #![tactic(auto)]
 
 mod archives;

@@ -1,4 +1,4 @@
-//! What is asked of a key, and what is answered.
+//! The address that is asked for under a key, and the answer.
 ghost use Rattle.std.specs.Prelude.{◌≡◌};
 ghost use Rattle.archive_core.specs.Lookup.{address_by, unslid};
 
@@ -6,23 +6,22 @@ use crate::Digest;
 use macho_symbols::Found;
 use memory::Heap;
 
-/// Which address of an image is meant.
+/// An address of an image: in its file, or where it was loaded.
 #[derive(Clone, Copy, Debug, PartialEq, Eq)]
 pub enum Where {
-    /// An address as the image's file has it.
+    /// An address in the image's file.
     File(u64),
-    /// An address of the image where it was loaded: it stands for `address - load` after the
-    /// `vmaddr` of the segment `__TEXT`.
+    /// An address of the loaded image: in the file it is `address - load` after the `vmaddr` of the segment `__TEXT`.
     Loaded {
-        /// Where the image's `__TEXT` was loaded.
+        /// The address where the image's `__TEXT` was loaded.
         load: u64,
-        /// An address there.
+        /// An address in the loaded image.
         address: u64,
     },
 }
 
 impl Where {
-    /// The address in a file that is meant, by the `vmaddr` of the file's `__TEXT`.
+    /// The address in the file, by the `vmaddr` of the file's `__TEXT`. `None` if a loaded address has none.
     pub fn address_by(self, base: Option<u64>) -> Option<u64>
         ensures { result ≡ address_by base self }
     {
@@ -33,7 +32,7 @@ impl Where {
     }
 }
 
-/// The address that a loaded one stands for: `address - load + base`, in whole numbers.
+/// The file address of a loaded address: `address - load + base`, in whole numbers; `None` if it is outside 64 bits.
 fn unslid(base: u64, load: u64, address: u64) -> Option<u64>
     ensures { result ≡ unslid base load address }
 {
@@ -44,16 +43,16 @@ fn unslid(base: u64, load: u64, address: u64) -> Option<u64>
     }
 }
 
-/// What one slice tells of an address.
+/// The answer of one slice for an address.
 #[derive(Clone, Copy, Debug, PartialEq, Eq)]
 pub enum Own<'a> {
-    /// No symbol of the slice stands for it, or there is no such address in the slice's file.
+    /// The slice has no nearest symbol for the address, or its file does not have the address.
     NoSymbol,
     /// Its nearest symbol.
     Symbol(Found<'a>),
 }
 
-/// What an archive tells of an address under a key.
+/// The answer of an archive for an address under a key.
 #[derive(Drop)]
 pub enum Answer<'a> {
     /// No slice of the key answers.
@@ -62,6 +61,6 @@ pub enum Answer<'a> {
     NoSymbol,
     /// One slice answers: its nearest symbol.
     Symbol(Found<'a>),
-    /// Several slices answer: the SHA-256 of each with what it tells, in the order of their records.
+    /// Several slices answer: the SHA-256 and the answer of each, in the order of their records.
     Conflict(Vec<(Digest, Own<'a>), Heap>),
 }

@@ -1,4 +1,4 @@
-//! What a search for a name tells.
+//! The rows of a search for a name.
 ghost use Rattle.std.specs.Prelude.{◌≡◌, ℕ, List, IfOk};
 ghost use Rattle.sha2.specs.Sha256.{sha256};
 ghost use Rattle.macho_symbols.specs.Views.{found_view};
@@ -10,25 +10,25 @@ use macho_symbols::Found;
 use memory::{Heap, NoMemory};
 use std::cmp::Ordering;
 
-/// Where a symbol of the name stands. The names of its section are borrowed from its slice.
+/// A symbol with the name. The names of its section are borrowed from its slice.
 #[derive(Clone, Copy, Debug, PartialEq, Eq)]
 pub struct NameRow<'a> {
-    /// Under what the slice is kept.
+    /// The key of the slice.
     pub key: SliceKey,
     /// The SHA-256 of the slice's bytes.
     pub digest: Digest,
     /// `n_value`: the address of the symbol.
     pub address: u64,
-    /// `n_sect`: the number of the section, from 1 on.
+    /// `n_sect`: the number of the section, from 1.
     pub sect: u8,
-    /// `segname`: the name of the segment, as the section tells it.
+    /// `segname`: the name of the segment, as in the section.
     pub segment: &'a [u8],
     /// `sectname`: the name of the section.
     pub section: &'a [u8],
 }
 
 impl<'a> NameRow<'a> {
-    /// The row of a symbol that was found in a slice of this key and digest.
+    /// The row of a symbol that was found in a slice with this key and digest.
     pub fn of(key: SliceKey, digest: Digest, found: Found<'a>) -> NameRow<'a>
         ensures { (slice : List ℕ) → key ≡ key_of slice → digest.0 ≡ sha256 slice
             → name_view result ≡ name_row slice (found_view found.entry) }
@@ -43,7 +43,7 @@ impl<'a> NameRow<'a> {
         }
     }
 
-    /// The row, of which the names are copied.
+    /// The row, with copies of its names. Fails only if memory runs out.
     pub fn own(&self, heap: &Heap) -> Result<OwnedNameRow, NoMemory>
         ensures { IfOk result (λ row. owned_name_view row ≡ name_view self.now) }
     {
@@ -57,7 +57,7 @@ impl<'a> NameRow<'a> {
         })
     }
 
-    /// Compares by key, then by digest, then by where the symbol stands in its slice.
+    /// Compares by key, then by digest, then by the symbol's address and section.
     pub fn compare(&self, other: &NameRow<'_>) -> Ordering
         ensures { result ≡ name_cmp (name_view self.now) (name_view other.now) }
     {
@@ -84,7 +84,7 @@ impl<'a> NameRow<'a> {
             .then(arches)
     }
 
-    // Compares by where the symbol stands in its slice.
+    // Compares by the symbol's address and section.
     fn compare_places(&self, other: &NameRow<'_>) -> Ordering
         ensures { result ≡ place_cmp (name_view self.now) (name_view other.now) }
     {
@@ -98,18 +98,18 @@ impl<'a> NameRow<'a> {
     }
 }
 
-/// Where a symbol of the name stands, as in [`NameRow`]. The names of its section are owned, so that the slice may go.
+/// A symbol with the name, as in [`NameRow`]. It owns the names of its section, so that the slice may be dropped.
 #[derive(Debug, Drop)]
 pub struct OwnedNameRow {
-    /// Under what the slice is kept.
+    /// The key of the slice.
     pub key: SliceKey,
     /// The SHA-256 of the slice's bytes.
     pub digest: Digest,
     /// `n_value`: the address of the symbol.
     pub address: u64,
-    /// `n_sect`: the number of the section, from 1 on.
+    /// `n_sect`: the number of the section, from 1.
     pub sect: u8,
-    /// `segname`: the name of the segment, as the section tells it.
+    /// `segname`: the name of the segment, as in the section.
     pub segment: Vec<u8, Heap>,
     /// `sectname`: the name of the section.
     pub section: Vec<u8, Heap>,

@@ -1,4 +1,4 @@
-//! What an archive takes, and the order of records.
+//! The operations of an archive, and the order of records.
 ghost use Rattle.std.specs.Prelude.{◌≡◌, IfOk};
 ghost use Rattle.std.specs.Ordering.{nat_cmp};
 ghost use Rattle.std.specs.Cmp.Lexicographic.{slice_cmp};
@@ -13,26 +13,26 @@ use crate::{CheckedSlice, Digest, Slice, SliceKey};
 use memory::{Heap, NoMemory};
 use std::cmp::Ordering;
 
-/// What an archive takes.
+/// An operation of an archive.
 #[derive(Drop)]
 pub enum Operation {
-    /// The slice is kept, under its own key.
+    /// Admits the slice, under its own key.
     Admit(Slice),
-    /// The slices under that key whose bytes have that digest are retired, whether they were
-    /// admitted before, are admitted later or never come.
+    /// Retires the slices with that key and that digest, whether they were admitted before, are admitted later or
+    /// never.
     Retire(SliceKey, Digest),
 }
 
-/// An operation that is borrowed, by an archive that holds it or a text that it is read from.
+/// A borrowed operation, from an archive that holds it or from a text.
 #[derive(Drop)]
 pub enum Record<'a> {
-    /// The slice is kept, under its own key.
+    /// Admits the slice, under its own key.
     Admit(CheckedSlice<'a>),
-    /// The slices under that key whose bytes have that digest are retired.
+    /// Retires the slices with that key and that digest.
     Retire(SliceKey, Digest),
 }
 
-/// The retirement of the slices under the key that have the digest.
+/// The retirement of the slices with the key and the digest.
 pub fn retirement(key: SliceKey, digest: Digest) -> Operation
     ensures is { result ≡ Retire key digest }
     ensures operation { IsOperation (Retire key digest) }
@@ -41,7 +41,7 @@ pub fn retirement(key: SliceKey, digest: Digest) -> Operation
 }
 
 impl Operation {
-    /// The same operation once more.
+    /// A copy of the operation. Fails only if memory runs out.
     pub fn copy(&self, heap: Heap) -> Result<Operation, NoMemory>
         ensures { IfOk result (λ operation. operation ≡ self.now) }
     {
@@ -59,7 +59,7 @@ impl Operation {
         }
     }
 
-    /// Builds the table of addresses of the slice that it admits, where it has none.
+    /// Builds the table of addresses of the admitted slice, if it has none. Fails only if memory runs out.
     pub fn keep_table(&mut self, heap: &Heap) -> Result<(), NoMemory>
         ensures { self.new ≡ self.old }
     {
@@ -69,7 +69,7 @@ impl Operation {
         }
     }
 
-    /// Keeps the digest of the slice that it admits, so that it is computed once.
+    /// Keeps the digest of the admitted slice, so that it is computed once.
     pub fn keep_digest(&mut self)
         ensures { self.new ≡ self.old }
     {
@@ -96,7 +96,7 @@ impl Operation {
         }
     }
 
-    /// The key that it is under.
+    /// The key of the operation.
     pub fn key(&self) -> SliceKey
         ensures { result ≡ key_in self.now }
     {
@@ -108,7 +108,7 @@ impl Operation {
 }
 
 impl<'a> Record<'a> {
-    /// The same operation, kept: its slice is copied, and not checked again.
+    /// The same operation, owned: its slice is copied, and not checked again. Fails only if memory runs out.
     pub fn copy(&self, heap: Heap) -> Result<Operation, NoMemory>
         ensures { IfOk result (λ operation. operation ≡ operation_borrowed self.now) }
     {
@@ -149,7 +149,7 @@ fn compare_retirements(key: &SliceKey, digest: &Digest, that: &SliceKey, other: 
     digest.0.cmp(&other.0)
 }
 
-// Compares two admissions by what their records hold after the tag: key, length, bytes.
+// Compares two admissions by the fields of their records after the tag: key, length, bytes.
 fn compare_admissions(key: &SliceKey, bytes: &[u8], that: &SliceKey, other: &[u8]) -> Ordering
     requires key { key.now ≡ key_of bytes.now }
     requires that { that.now ≡ key_of other.now }

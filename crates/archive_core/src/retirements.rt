@@ -1,4 +1,4 @@
-//! Retirements that were read or came, and the slices that they cover.
+//! Retirements, and the slices that they cover.
 ghost use Rattle.std.specs.Prelude.{◌≡◌, ◌∷◌, ◌++◌, ℕ, List, [], length, take, true, false, not, OnOk, IfOk};
 ghost use Rattle.std.specs.Prelude.{OnErr, ◌⊎◌};
 ghost use Rattle.std.specs.FinSet as set;
@@ -18,15 +18,15 @@ use std::cmp::Ordering;
 use std::collections::BTreeSet;
 use std::marker::Model;
 
-// How many bytes of a record its tag and its key are.
+// The number of bytes of the tag and the key in a record.
 const PREFIX_LEN: usize = 25;
 
-/// The records of retirements. A contract sees them as a list, of which the order says nothing.
+/// The records of retirements. A contract sees them as a list whose order has no meaning.
 ///
-/// Those of an archive ascend, and take 57 bytes each. They may come in any order.
+/// Those of an archive ascend, and need 57 bytes each. They may be added in any order.
 #[derive(Drop)]
 pub struct Retirements {
-    // Those that came above all of these before them.
+    // Those that were added in ascending order.
     ascending: Vec<[u8; RETIREMENT_LEN], Heap>,
     others: BTreeSet<[u8; RETIREMENT_LEN], Heap>,
 }
@@ -55,7 +55,7 @@ fn prefix_of(key: &SliceKey) -> [u8; PREFIX_LEN]
     prefix
 }
 
-// Compares a record with the tag and the key of one.
+// Compares the tag and the key of a record with the prefix.
 fn compare_prefix(kept: &[u8; RETIREMENT_LEN], prefix: &[u8; PREFIX_LEN]) -> Ordering
     ensures { result ≡ slice_cmp nat_cmp (take 25 kept.now) prefix.now }
 {
@@ -69,7 +69,7 @@ fn compare_whole(a: &[u8; RETIREMENT_LEN], b: &[u8; RETIREMENT_LEN]) -> Ordering
     a[..].cmp(&b[..])
 }
 
-// Whether the record is among these, which ascend.
+// The index of the record among these, which ascend, or the index where it would be inserted.
 fn search(
     records: &[[u8; RETIREMENT_LEN]],
     retirement: &[u8; RETIREMENT_LEN],
@@ -81,7 +81,7 @@ fn search(
     records.binary_search_by(|kept| compare_whole(kept, retirement))
 }
 
-// Takes the last of these out where it is this record.
+// Removes the last of these if it is this record.
 fn pop_if_last(records: &mut Vec<[u8; RETIREMENT_LEN], Heap>, retirement: &[u8; RETIREMENT_LEN])
     ensures { (records.new.items ≡ records.old.items)
         ⊎ (records.old.items ≡ records.new.items ++ retirement.now ∷ []) }
@@ -91,7 +91,7 @@ fn pop_if_last(records: &mut Vec<[u8; RETIREMENT_LEN], Heap>, retirement: &[u8; 
     }
 }
 
-// Whether a record that begins so is among these, which ascend.
+// Whether a record with the prefix is among these, which ascend.
 fn has_prefix(records: &[[u8; RETIREMENT_LEN]], prefix: &[u8; PREFIX_LEN]) -> bool
     requires { IsStrictlySortedBy (slice_cmp nat_cmp) records.now }
     ensures { (r : List ℕ) → take 25 r ≡ prefix.now
@@ -102,7 +102,7 @@ fn has_prefix(records: &[[u8; RETIREMENT_LEN]], prefix: &[u8; PREFIX_LEN]) -> bo
         .is_ok()
 }
 
-// The least record that begins so.
+// The least record with the prefix.
 fn least_of(prefix: &[u8; PREFIX_LEN]) -> [u8; RETIREMENT_LEN]
     ensures prefix { take 25 result ≡ prefix.now }
     ensures least { (r : List ℕ) → take 25 r ≡ prefix.now → length r ≡ 57
@@ -113,7 +113,7 @@ fn least_of(prefix: &[u8; PREFIX_LEN]) -> [u8; RETIREMENT_LEN]
     least
 }
 
-// Whether a record that begins so is among these.
+// Whether a record with the prefix is among these.
 fn has_other_prefix(
     records: &BTreeSet<[u8; RETIREMENT_LEN], Heap>,
     prefix: &[u8; PREFIX_LEN],
@@ -128,7 +128,7 @@ fn has_other_prefix(
 }
 
 impl Retirements {
-    /// None.
+    /// Creates an empty set of retirements.
     pub fn none(heap: &Heap) -> Retirements
         ensures { result ≡ [] }
     {
@@ -138,7 +138,7 @@ impl Retirements {
         }
     }
 
-    // Whether a retirement of the key is there.
+    // Whether there is a retirement with the key.
     fn has_key(&self, key: &SliceKey) -> bool
         ensures { (digest : List ℕ) → length digest ≡ 32
             → set.contains (set.from_list {R = slice_cmp nat_cmp} self.now) (retirement_record key.now digest) ≡ true
@@ -148,15 +148,15 @@ impl Retirements {
         has_prefix(&self.ascending, &prefix) || has_other_prefix(&self.others, &prefix)
     }
 
-    // Whether the retirement is there.
+    // Whether the retirement is in the set.
     fn contains(&self, retirement: &[u8; RETIREMENT_LEN]) -> bool
         ensures { result ≡ set.contains (set.from_list {R = slice_cmp nat_cmp} self.now) retirement.now }
     {
         search(&self.ascending, retirement).is_ok() || self.others.contains(retirement)
     }
 
-    /// Whether the retirement is there that covers the slice. Its digest is kept where a retirement of its key is
-    /// there, and not asked for elsewhere.
+    /// Whether a retirement in the set covers the slice. If one has the slice's key, the slice's digest is computed and
+    /// kept; otherwise it is not needed.
     pub fn covers(&self, slice: &mut CheckedSlice<'_>) -> bool
         ensures covers { result ≡ set.contains (set.from_list {R = slice_cmp nat_cmp} self.now)
             (retirement_record (key_of slice.old) (sha256 slice.old)) }
@@ -170,7 +170,7 @@ impl Retirements {
         self.contains(&retirement_bytes(&key, &slice.digest()))
     }
 
-    /// Keeps the record of a retirement, and answers whether it was not there.
+    /// Adds the record of a retirement, and returns whether it was new. Fails only if memory runs out.
     pub fn keep(&mut self, retirement: [u8; RETIREMENT_LEN]) -> Result<bool, NoMemory>
         ensures kept { OnOk result (set.from_list {R = slice_cmp nat_cmp} self.new
             ≡ set.insert (set.from_list self.old) retirement) }
@@ -191,8 +191,8 @@ impl Retirements {
         Ok(true)
     }
 
-    /// Forgets the record of a retirement if it is the last that came above all before it, and else nothing: where it
-    /// is kept elsewhere, too, the two together have what they had.
+    /// Removes the record of a retirement if it is the last that was added in ascending order; otherwise changes
+    /// nothing. If the record is also kept in another set, the two sets together still have the same records.
     pub fn forget(&mut self, retirement: &[u8; RETIREMENT_LEN])
         ensures { set.insert (set.from_list {R = slice_cmp nat_cmp} self.new) retirement.now
             ≡ set.insert (set.from_list self.old) retirement.now }

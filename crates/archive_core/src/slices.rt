@@ -1,4 +1,4 @@
-//! Slices: bytes that were checked, borrowed or owned.
+//! Slices: checked bytes, borrowed or owned.
 ghost use Rattle.std.specs.Prelude.{◌≡◌, IfOk, IfErr, OnOk, length, nat_lt};
 ghost use Rattle.sha2.specs.Sha256.{sha256};
 ghost use Rattle.std.specs.Option.{option_map};
@@ -14,8 +14,8 @@ use memory::{Heap, NoMemory};
 use sha2::{Digest as _, Sha256};
 use std::marker::Model;
 
-/// What is found out of a slice, so that its bytes are read once: its key and where its symbols lie, by its check, and
-/// its digest, once that was asked for and kept.
+/// Facts of a slice, so that its bytes are read once: its key and the offsets of its symbols, from its check, and its
+/// digest, once it was computed and kept.
 #[derive(Clone, Copy, Debug)]
 pub struct SliceFacts {
     key: SliceKey,
@@ -23,10 +23,10 @@ pub struct SliceFacts {
     digest: Option<Digest>,
 }
 
-/// A slice whose bytes are borrowed: the bytes of a valid image with valid symbols, with what was found out of them. A
-/// contract sees it as its bytes.
+/// A slice whose bytes are borrowed: the bytes of a valid image with valid symbols, and their facts. A contract sees it
+/// as its bytes.
 ///
-/// No call reads the load commands again, but for what it is asked of them.
+/// The load commands are read again only by calls that need them.
 #[derive(Drop)]
 pub struct CheckedSlice<'a> {
     bytes: &'a [u8],
@@ -47,9 +47,9 @@ impl<'a> Model for CheckedSlice<'a> {
 /// A slice that an archive keeps: the bytes of a valid image with valid symbols, owned. A contract sees it as its
 /// bytes.
 ///
-/// What was found out of it is kept beside the bytes: every comparison of records begins with the key, and every
-/// lookup reads the symbols. A slice that is asked often may have its table of addresses beside it, in a box of its
-/// own, so that a slice without one is small.
+/// The facts are kept with the bytes: every comparison of records begins with the key, and every lookup reads the
+/// symbols. A slice that is looked up often may have a table of addresses, in a box of its own, so that a slice without
+/// one is small.
 #[derive(Drop)]
 pub struct Slice {
     bytes: Vec<u8, Heap>,
@@ -74,7 +74,7 @@ impl Model for Slice {
 }
 
 impl<'a> CheckedSlice<'a> {
-    /// The slice of bytes that [`Slice::check`] has accepted, by what it found out of them.
+    /// The slice of bytes that [`Slice::check`] has accepted, with the facts of that check.
     pub fn of_checked(bytes: &'a [u8], facts: SliceFacts) -> CheckedSlice<'a>
         requires { IsCheckedOf bytes.now facts }
         ensures { result ≡ bytes.now }
@@ -90,21 +90,21 @@ impl<'a> CheckedSlice<'a> {
         self.bytes
     }
 
-    /// What was found out, for who takes the bytes over: [`Slice::of_checked`].
+    /// The facts, for a caller that takes the bytes over: [`Slice::of_checked`].
     pub fn facts(&self) -> SliceFacts
         ensures { IsCheckedOf self.now result }
     {
         self.facts
     }
 
-    /// Under what the slice is kept.
+    /// The key of the slice.
     pub fn key(&self) -> SliceKey
         ensures { result ≡ key_of self.now }
     {
         self.facts.key
     }
 
-    /// The SHA-256 of the bytes, computed anew where it is not kept.
+    /// The SHA-256 of the bytes; it is computed if it is not kept.
     pub fn digest(&self) -> Digest
         ensures digest { result.0 ≡ sha256 self.now }
         ensures valid { IsValid self.now }
@@ -115,7 +115,7 @@ impl<'a> CheckedSlice<'a> {
         }
     }
 
-    /// Keeps the digest among what was found out. Nothing that is asked of the slice depends on it.
+    /// Keeps the digest among the facts. No other result depends on it.
     pub fn keep_digest(&mut self)
         ensures { self.new ≡ self.old }
     {
@@ -137,8 +137,8 @@ impl<'a> CheckedSlice<'a> {
         Symbols::of_read(&image)
     }
 
-    /// Whether a symbol of the slice has the name. Not inlined: a scan has 16 KiB on the stack, and where there is no
-    /// memory for a stack that grows, the program is ended and cannot tell it.
+    /// Whether a symbol of the slice has the name. Not inlined: a scan needs 16 KiB on the stack, and if there is no
+    /// memory for a growing stack, the program ends without a message.
     #[inline(never)]
     pub fn has_name(&self, name: &[u8]) -> bool
         ensures { result ≡ nat_lt 0 (length (named self.now name.now)) }
@@ -147,7 +147,7 @@ impl<'a> CheckedSlice<'a> {
         names.next().is_some()
     }
 
-    /// The slice, whose bytes are copied.
+    /// A slice with a copy of the bytes. Fails only if memory runs out.
     pub fn admit(&self, heap: Heap) -> Result<Slice, NoMemory>
         ensures { IfOk result (λ slice. slice ≡ self.now) }
     {
@@ -157,8 +157,12 @@ impl<'a> CheckedSlice<'a> {
 }
 
 impl Slice {
-    /// Tests whether the bytes are a slice, and gives them as one, or else the first fault of the image, or of the
-    /// symbols of one that has none. Takes no memory.
+    /// Checks whether the bytes are a slice, and returns it. Allocates no memory.
+    ///
+    /// # Errors
+    ///
+    /// - `SliceFault::Image`: the first fault of the image;
+    /// - `SliceFault::Symbols`: the bytes are an image; the first fault of its symbols.
     pub fn check(bytes: &[u8]) -> Result<CheckedSlice<'_>, SliceFault>
         ensures valid { OnOk result (IsValid bytes.now) }
         ensures slice { IfOk result (λ slice. slice ≡ bytes.now) }
@@ -177,7 +181,7 @@ impl Slice {
         }
     }
 
-    /// The slice of these bytes, which are copied. They are checked before memory is asked for.
+    /// A slice with a copy of the bytes. They are checked before memory is allocated.
     pub fn admit(heap: Heap, bytes: &[u8]) -> Result<Slice, AdmitFault>
         ensures valid { OnOk result (IsValid bytes.now) }
         ensures slice { IfOk result (λ slice. slice ≡ bytes.now) }
@@ -193,8 +197,8 @@ impl Slice {
         }
     }
 
-    /// The slice of bytes that [`Slice::check`] has accepted, by what it found out of them. They are taken over
-    /// without a copy.
+    /// The slice of bytes that [`Slice::check`] has accepted, with the facts of that check. The bytes are moved, not
+    /// copied.
     pub fn of_checked(bytes: Vec<u8, Heap>, facts: SliceFacts) -> Slice
         requires { IsCheckedOf bytes.items facts }
         ensures { result ≡ bytes.items }
@@ -216,7 +220,7 @@ impl Slice {
         }
     }
 
-    /// A slice of the same bytes.
+    /// A copy of the slice. Fails only if memory runs out.
     pub fn copy(&self, heap: Heap) -> Result<Slice, NoMemory>
         ensures { IfOk result (λ slice. slice ≡ self.now) }
     {
@@ -231,14 +235,14 @@ impl Slice {
         self.lend().bytes()
     }
 
-    /// Under what the slice is kept.
+    /// The key of the slice.
     pub fn key(&self) -> SliceKey
         ensures { result ≡ key_of self.now }
     {
         self.facts.key
     }
 
-    /// The SHA-256 of the bytes, computed anew where it is not kept.
+    /// The SHA-256 of the bytes; it is computed if it is not kept.
     pub fn digest(&self) -> Digest
         ensures digest { result.0 ≡ sha256 self.now }
         ensures valid { IsValid self.now }
@@ -246,7 +250,7 @@ impl Slice {
         self.lend().digest()
     }
 
-    /// Keeps what was found out of the slice. Nothing that is asked of it depends on that.
+    /// Keeps the facts of the slice. No other result depends on them.
     pub fn keep(&mut self, facts: SliceFacts)
         requires { IsCheckedOf self.old facts }
         ensures { self.new ≡ self.old }
@@ -254,7 +258,7 @@ impl Slice {
         self.facts = facts;
     }
 
-    /// Builds the table of addresses, where there is none. Nothing that is asked of the slice depends on it.
+    /// Builds the table of addresses, if there is none. No other result depends on it. Fails only if memory runs out.
     pub fn keep_table(&mut self, heap: &Heap) -> Result<(), NoMemory>
         ensures { self.new ≡ self.old }
     {
@@ -266,14 +270,14 @@ impl Slice {
         Ok(())
     }
 
-    /// Keeps the digest, so that it is computed once. Nothing that is asked of the slice depends on it.
+    /// Keeps the digest, so that it is computed once. No other result depends on it.
     pub fn keep_digest(&mut self)
         ensures { self.new ≡ self.old }
     {
         self.facts.digest = Some(self.digest());
     }
 
-    /// The nearest symbol of an address in the slice's file: out of the table, or by a scan where there is none.
+    /// The nearest symbol of an address in the slice's file, from the table, or by a scan if there is none.
     pub fn nearest(&self, address: u64) -> Option<Found<'_>>
         ensures { FindsNearest self.now address (option_map found_view result) }
     {
@@ -283,14 +287,14 @@ impl Slice {
         }
     }
 
-    /// The image. Takes no memory.
+    /// The image. Allocates no memory.
     pub fn image(&self) -> Image<'_>
         ensures { result ≡ self.now }
     {
         self.lend().image()
     }
 
-    /// The symbols of the image. Takes no memory.
+    /// The symbols of the image. Allocates no memory.
     pub fn symbols(&self) -> Symbols<'_>
         ensures { result ≡ self.now }
     {
@@ -298,7 +302,7 @@ impl Slice {
     }
 }
 
-// What is to be kept of an image whose symbols can be read.
+// The facts of an image whose symbols can be read.
 #[tactic(auto, unfolding(crate::specs::Valid::key_of))]
 fn facts_in(image: &Image<'_>) -> SliceFacts
     requires { HasSymbols image.now }

@@ -13,7 +13,7 @@ pub mod Kept
 pub mod Deltas
 pub mod Agreed
 pub mod Meant
-pub mod Telling
+pub mod EntriesDiffer
 pub mod Rows
 pub mod Rehearsal
 pub mod Events

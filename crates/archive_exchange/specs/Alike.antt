@@ -1,4 +1,4 @@
--- When two contents are alike, and when sites of two runs took the same operations.
+-- Contents that are alike, and sites of two runs that received the same operations.
 use Rattle.std.specs.Prelude.{◌≡◌, ◌↔◌, ℕ, List}
 use Rattle.archive_core.specs.Content.{Operations, content_of}
 use Rattle.archive_core.specs.Find.{IsFinds}
@@ -11,8 +11,8 @@ use Rattle.archive_exchange.specs.World.{Event}
 use Rattle.archive_exchange.specs.Reached.{reached}
 use Rattle.archive_exchange.specs.SiteState.{IsArchiveTextOf}
 
--- two contents are alike: one text is that of both, and each lookup, each search for a UUID and each search for a name
--- finds in the one what it finds in the other
+-- two contents are alike: they have the same text, and each lookup, each search for a UUID and each search for a name
+-- has the same result in both
 pub record AreAlike (o p : Operations) : Type 0 where
   pub text : (bytes : List ℕ) × IsArchiveTextOf bytes o × IsArchiveTextOf bytes p
   pub lookups : (key : SliceKey) (asked : Where) (answer : AnswerRecord)
@@ -20,7 +20,8 @@ pub record AreAlike (o p : Operations) : Type 0 where
   pub finds : (uuid : List ℕ) (rows : List FindRow) → IsFinds o uuid rows ↔ IsFinds p uuid rows
   pub names : (name : List ℕ) (rows : List NameRecord) → IsNames o name rows ↔ IsNames p name rows
 
--- what reached site i of the one run makes the content that what reached site j of the other makes: the same operations
--- do, whatever slices that are retired at both reached one of them alone
+-- the operations that reached site i of the first run and those that reached site j of the second have the same
+-- content: this holds if they are the same operations, and still if slices that both retired reached only one of the
+-- sites
 abbrev pub TookTheSame : {F : Type 0} → ℕ → List (Event F) → ℕ → ℕ → List (Event F) → ℕ → Type 0
 TookTheSame sites events i others later j = content_of (reached sites events i) ≡ content_of (reached others later j)

@@ -16,7 +16,7 @@ use Rattle.text_values.specs.Words.{digest_text}
 use Rattle.text_reports.specs.Report.{line}
 use Rattle.text_reports.specs.Texts.{called, record_fault_text, take_fault_text}
 
--- why an event is refused
+-- the text for why an event is refused
 unfoldable pub event_fault_text : EventFault → List ℕ
 event_fault_text NoSite = codes "NoSite"
 event_fault_text NoMessage = codes "NoMessage"
@@ -24,7 +24,7 @@ event_fault_text (NotASummary fault) = called (codes "NotASummary") (record_faul
 event_fault_text (TextRefused fault) = called (codes "Refused") (record_fault_text fault)
 event_fault_text (File fault) = called (codes "File") (take_fault_text fault)
 
--- whether a slice of a file is new, was known, there or covered by a retirement, or is passed over
+-- whether a slice of a file is new; was known, present or covered by a retirement; or is skipped
 abbrev pub is_added : Taken → Bool
 is_added (Added _ _) = true
 is_added (Known _ _) = false
@@ -40,17 +40,17 @@ is_skipped (Added _ _) = false
 is_skipped (Known _ _) = false
 is_skipped Skipped = true
 
--- how many slices of a file are new, were known, and are passed over
+-- the numbers of slices of a file that are new, were known, and are skipped
 unfoldable pub took_text : List Taken → List ℕ
 took_text rows =
     codes "took " ++ decimal (count_by is_added rows) ++ codes " " ++ decimal (count_by is_known rows)
     ++ codes " " ++ decimal (count_by is_skipped rows)
 
--- a message that was sent: its number, and how many bytes it has
+-- a message that was sent: its number, and its size in bytes
 unfoldable pub sent_text : ℕ → ℕ → List ℕ
 sent_text message bytes = codes "sent " ++ decimal message ++ codes " " ++ decimal bytes
 
--- what is answered to an event, where these are the messages that were sent
+-- the text for the outcome of an event, with the messages that were sent
 unfoldable pub outcome_text : List (List ℕ) → Outcome → List ℕ
 outcome_text messages (Took rows) = took_text rows.items
 outcome_text messages (Retired true) = codes "retired"
@@ -61,18 +61,18 @@ outcome_text messages Saved = codes "saved"
 outcome_text messages Stopped = codes "stopped"
 outcome_text messages (Refused fault) = codes "refused " ++ event_fault_text fault
 
--- the message of an outcome that tells one is there, among so many
+-- the message of an outcome that sent one is among this number of messages
 abbrev pub IsSentAmong : ℕ → Outcome → Type 0
 IsSentAmong messages (Sent message) = message < messages
 IsSentAmong messages _ = ⊤
 
--- a line an event, each with its number, which are those from this one on
+-- a line for each event, with its number, counted from this one
 unfoldable pub event_lines : List (List ℕ) → ℕ → List Outcome → List ℕ
 event_lines messages number [] = []
 event_lines messages number (outcome ∷ outcomes) =
     line (decimal number ++ codes " " ++ outcome_text messages outcome) ++ event_lines messages (number + 1) outcomes
 
--- a site: its number, how many records it holds, how many bytes their text has, and the SHA-256 of that text
+-- a site: its number, the number of its records, the number of bytes of their text, and the SHA-256 of that text
 abbrev pub site_line : ℕ → Sizes → Digest → List ℕ
 site_line number sizes digest =
     line (codes "site " ++ decimal number ++ codes " " ++ decimal sizes.records ++ codes " " ++ decimal sizes.bytes

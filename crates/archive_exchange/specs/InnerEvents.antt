@@ -1,5 +1,5 @@
--- What an event makes of a site, of all sites and of a run: definitions for private functions. No public contract uses
--- them.
+-- The effect of an event on a site, on all sites and on a run: definitions for private functions. No public contract
+-- uses them.
 use Rattle.std.specs.Prelude.{◌≡◌, ℕ, true, suc, ◌≤◌, List, Some, length, slice_get, slice_set}
 use Rattle.std.specs.List.{AllZip}
 use Rattle.std.specs.FinSet as set
@@ -14,16 +14,16 @@ use Rattle.archive_exchange.specs.WorldState.{Represents}
 use Rattle.archive_exchange.specs.declared.outcome.Outcome.{Outcome}
 use Rattle.archive_admission.specs.declared.fault.TakeFault.{TakeFault}
 
--- a file as the definitions of sites see it
+-- a file in the definitions of sites
 abbrev pub SeenFile : Type 0
 SeenFile = model.File TakeFault
 
--- what an event issues are records of operations
+-- the operations that an event issues are records
 abbrev pub IsRecorded : model.Event TakeFault → Type 0
 IsRecorded seen = (r : List ℕ) → set.contains (issues (Some seen)) r ≡ true → IsRecord r
 
--- The event happens at a site: in each world that sites show, of which this one stands at the event's number, it leaves
--- the sites as they are with this one, and is answered so.
+-- The event happens at a site: in each world that the sites represent, with this one at the event's number, the sites
+-- afterwards are the same with the new state of this one, and this is the outcome.
 pub record Follows (e : Event TakeFault) (old new : SiteState) (texts later : List (List ℕ))
     (answer : Outcome) : Type 0 where
   pub shows : (sites : List SiteState) (w : World) → slice_get sites (site_of e) ≡ Some old → Represents sites texts w
@@ -31,14 +31,15 @@ pub record Follows (e : Event TakeFault) (old new : SiteState) (texts later : Li
   pub tells : (sites : List SiteState) (w : World) → slice_get sites (site_of e) ≡ Some old → Represents sites texts w
       → OutcomeIs answer (outcome (length sites) w e)
 
--- The event happens among sites: it leaves them so in each world that they show, and is answered so.
+-- The event happens among sites: in each world that they represent, these are the sites afterwards, and this is the
+-- outcome.
 pub record Happens (e : Event TakeFault) (sites others : List SiteState) (texts later : List (List ℕ))
     (answer : Outcome) : Type 0 where
   pub shows : (w : World) → Represents sites texts w → Represents others later (happens (length sites) w e)
   pub tells : (w : World) → Represents sites texts w → OutcomeIs answer (outcome (length sites) w e)
 
--- What was run so far: the sites and messages show the state after the first n events, the outcomes tell theirs, and
--- what the accepted ones of them issued are records of operations.
+-- The run so far: the sites and messages represent the state after the first n events, the outcomes are theirs, and the
+-- operations that accepted events among them issued are records.
 pub record HasRun (sites : ℕ) (events : List (Event TakeFault)) (n : ℕ) (kept : List SiteState) (texts : List (List ℕ))
     (told : List Outcome) : Type 0 where
   pub shows : Represents kept texts (state sites events n)

@@ -1,4 +1,4 @@
--- Which operations were issued, and which message an event sent.
+-- The operations that were issued, and the message that an event sent.
 use Rattle.std.specs.Prelude.{◌≡◌, ℕ, List, true, length, slice_get, ◌<◌, ◌≤◌, ◌≢◌, Bool, false, ◌&&◌, ◌==◌, [], ◌∷◌}
 use Rattle.std.specs.declared.option.Option.{Option}
 use Rattle.std.specs.declared.option.Option.TheVariants.{Some}
@@ -23,7 +23,7 @@ pub record IsIssued {F : Type 0} (sites : ℕ) (events : List (Event F)) (r : Li
   pub accepted : is_accepted sites events (senders sites events number) (slice_get events number) ≡ true
   pub gives : set.contains (issues (slice_get events number)) r ≡ true
 
--- all that is in the set was issued
+-- each operation of the set was issued
 abbrev pub AreIssued : {F : Type 0} → ℕ → List (Event F) → Operations → Type 0
 AreIssued sites events o = (r : List ℕ) → set.contains o r ≡ true → IsIssued sites events r
 
@@ -32,7 +32,7 @@ abbrev pub EntriesDiffer : {F : Type 0} → ℕ → List (Event F) → Type 0
 EntriesDiffer sites events = (r s : List ℕ) → IsIssued sites events r → IsIssued sites events s → entry r ≡ entry s
     → r ≡ s
 
--- the number of the message that event n sends, if it sends one: as many were sent before
+-- the number of the message that event n sends, if it sends one: the number of messages sent before
 abbrev pub message_number : {F : Type 0} → ℕ → List (Event F) → ℕ → ℕ
 message_number sites events n = length (state sites events n).messages
 
@@ -54,12 +54,12 @@ is_changing (Some (Deliver i m)) = true
 is_changing (Some (Stop i)) = true
 is_changing _ = false
 
--- from event low to event high site i has no Take, Retire, Deliver or Stop but event d
+-- from event low to event high site i has no Take, Retire, Deliver or Stop except event d
 pub record IsQuiet {F : Type 0} (events : List (Event F)) (i low high d : ℕ) : Type 0 where
   pub quiet : (n : ℕ) → low ≤ n → n ≤ high → n ≢ d
       → (is_changing (slice_get events n) && i == site_or (slice_get events n)) ≡ false
 
--- each issued operation is told by the record of one
+-- each issued operation is a record
 abbrev pub AreRecords : {F : Type 0} → ℕ → List (Event F) → Type 0
 AreRecords sites events = (r : List ℕ) → IsIssued sites events r → IsRecord r
 

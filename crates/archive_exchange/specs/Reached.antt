@@ -1,4 +1,4 @@
--- Which operations reach a site: by the number of sites and the list of events alone, with no state.
+-- The operations that reach a site: a function of the number of sites and the list of events, without a state.
 use Rattle.std.specs.Prelude.{◌≡◌, ℕ, zero, suc, List, [], ◌∷◌, ◌++◌, Bool, true, false, not, ◌&&◌}
 use Rattle.std.specs.Prelude.{◌||◌, ◌==◌, if◌then◌else◌, nat_lt, ◌<◌, length, slice_get}
 use Rattle.std.specs.declared.option.Option.{Option}
@@ -30,7 +30,7 @@ abbrev pub is_stop : {F : Type 0} → Option (Event F) → Bool
 is_stop (Some (Stop i)) = true
 is_stop _ = false
 
--- the site of an event, or 0 where there is none
+-- the site of an event, or 0 if there is none
 abbrev pub site_or : {F : Type 0} → Option (Event F) → ℕ
 site_or None = 0
 site_or (Some e) = site_of e
@@ -50,7 +50,7 @@ union_below zero f = set.empty
 union_below (suc n) f = set.union (union_below n f) (f n)
 
 module _ {F : Type 0} (sites : ℕ) (events : List (Event F)) where
-  -- whether a message is there and its event is an Ask; and whether it is there and its event is none
+  -- whether a message exists and its event is an Ask; and whether it exists and its event is not an Ask
   abbrev pub from_ask : Option ℕ → Bool
   from_ask None = false
   from_ask (Some f) = is_ask (slice_get events f)
@@ -59,7 +59,7 @@ module _ {F : Type 0} (sites : ℕ) (events : List (Event F)) where
   from_other None = false
   from_other (Some f) = not (is_ask (slice_get events f))
 
-  -- whether an event is accepted, where `sent` has the number of the event that sent each message
+  -- whether an event is accepted; `sent` is the list of the numbers of the events that sent the messages
   abbrev pub is_accepted : List ℕ → Option (Event F) → Bool
   is_accepted sent None = false
   is_accepted sent (Some (Take i (Err f))) = false
@@ -67,8 +67,7 @@ module _ {F : Type 0} (sites : ℕ) (events : List (Event F)) where
   is_accepted sent (Some (Deliver i m)) = nat_lt i sites && from_other (slice_get sent m)
   is_accepted sent (Some e) = nat_lt (site_of e) sites
 
-  -- the numbers of the accepted Full, Ask and Reply events before n: message m is that of the event whose number stands
-  -- at place m
+  -- the numbers of the accepted Full, Ask and Reply events before n: the event at index m sent message m
   abbrev pub senders : ℕ → List ℕ
   senders zero = []
   senders (suc n) = senders n ++
@@ -84,19 +83,19 @@ module _ {F : Type 0} (sites : ℕ) (events : List (Event F)) where
   abbrev pub saves : ℕ → ℕ → Bool
   saves i k = is_of i k && is_saving (slice_get events k)
 
-  -- whether each Stop of i between k and n has a Save or Ask of i between k and itself
+  -- whether each Stop of i between k and n has a Save or Ask of i between k and the Stop
   abbrev pub is_kept : ℕ → ℕ → ℕ → Bool
   is_kept i k n = each_between k n (λ s. not (stops i s) || some_between k s (saves i))
 
-  -- what follows from what each site had after each number of events: had n i
+  -- definitions over the operations that each site had after each number of events: had n i
   module _ (had : ℕ → ℕ → Operations) where
-    -- the summary that event a sent, an Ask
+    -- the summary that event a, an Ask, sent
     abbrev pub asked : Option ℕ → Entries
     asked None = set.empty
     asked (Some a) = summary (had a (site_or (slice_get events a)))
 
-    -- the message that event f sends: what its site had, the summary of it, or the delta of it against the summary that
-    -- was asked with
+    -- the message that event f sends: the operations of its site, their summary, or the delta from the summary of the
+    -- Ask
     abbrev pub message_sent : ℕ → Option (Event F) → Message
     message_sent f (Some (Full x)) = Content (had f x)
     message_sent f (Some (Ask x)) = Summary (summary (had f x))
@@ -108,23 +107,23 @@ module _ {F : Type 0} (sites : ℕ) (events : List (Event F)) where
     carried None = set.empty
     carried (Some f) = operations_of (message_sent f (slice_get events f))
 
-    -- the operations that event k gives its site: those of a file's records, a retirement, or those of a message
+    -- the operations that event k brings to its site: those of a file's records, a retirement, or those of a message
     abbrev pub given : ℕ → Option (Event F) → Operations
     given k (Some (Take i (Ok parts))) = set.from_list (records parts)
     given k (Some (Retire i r)) = set.from_list (r ∷ [])
     given k (Some (Deliver i m)) = carried (slice_get (senders k) m)
     given k _ = set.empty
 
-    -- the operations that reach site i by n: those of its accepted events before n that are kept
+    -- the operations that reach site i by n: those of its accepted events before n, without those that a stop lost
     abbrev pub reaching : ℕ → ℕ → Operations
     reaching i n = union_below n (λ k. if is_of i k && is_kept i k n then given k (slice_get events k) else set.empty)
 
-  -- what site i had by n, where a message is followed back through at most that many others
+  -- the operations that site i had by n, if a message is traced back through at most this number of others
   abbrev pub had_within : ℕ → ℕ → ℕ → Operations
   had_within zero n i = set.empty
   had_within (suc depth) n i = content_of (reaching (had_within depth) i n)
 
-  -- what site i had by n: a message is sent by an earlier event, so n steps back are enough
+  -- the operations that site i had by n: a message is sent by an earlier event, so n steps back are enough
   abbrev pub had : ℕ → ℕ → Operations
   had n i = had_within n n i
 
@@ -132,7 +131,7 @@ module _ {F : Type 0} (sites : ℕ) (events : List (Event F)) where
   abbrev pub reached : ℕ → Operations
   reached i = reaching had i (length events)
 
--- how an operation reaches a site: event `number` gave it, and each Stop since came after a Save or Ask since
+-- how an operation reaches a site: event `number` brought it, and each Stop since then follows a Save or Ask since then
 pub record Reaches {F : Type 0} (sites : ℕ) (events : List (Event F)) (had_by : ℕ → ℕ → Operations) (o : List ℕ)
     (i n : ℕ) : Type 0 where
   pub number : ℕ

@@ -17,7 +17,7 @@ use Rattle.command_common.specs.Ends.{Query}
 use Rattle.command_common.specs.Inputs.{Reader, Gives, Unfailed, IsRefusedScript}
 use Rattle.command_common.specs.Outputs.{sizes_of}
 
--- the line of a site that holds this content
+-- the line of a site with this content
 abbrev pub held_line : ℕ → Operations → List ℕ
 held_line number o = site_line number (sizes_of o) (record { 0 = sha256 (written o) })
 
@@ -26,12 +26,12 @@ unfoldable pub site_lines : (ℕ → Operations) → ℕ → List ℕ
 site_lines held zero = []
 site_lines held (suc n) = site_lines held n ++ held_line n (held n)
 
--- a line an event, and after them a line a site: what was answered to the events, where they leave this world
+-- a line for each event with its outcome, and then a line for each site of the world after the events
 abbrev pub rehearsal_lines : ℕ → List Outcome → World → List ℕ
 rehearsal_lines sites told w = event_lines (map message_text w.messages) 0 told ++ site_lines w.held sites
 
--- The events are carried out on so many sites, which begin empty: these outcomes tell what is answered to each, and
--- these are their lines and those of what the sites hold after all events.
+-- The events are carried out on this number of sites, which begin empty: these outcomes are theirs, and the text has
+-- their lines, and those of the sites after all events.
 pub record TellsEvents (sites : ℕ) (events : List Event) (text : List ℕ) : Type 0 where
   pub seen : List ModelEvent
   pub told : List Outcome
@@ -39,7 +39,7 @@ pub record TellsEvents (sites : ℕ) (events : List Event) (text : List ℕ) : T
   pub outcomes_are : AllZip OutcomeIs told (outcomes sites seen (length seen))
   pub text_is : text ≡ rehearsal_lines sites told (state sites seen (length seen))
 
--- SCRIPT says so many sites and these events, and these are their lines, whatever events were refused.
+-- SCRIPT has this number of sites and these events, and the text has their lines, also if events were refused.
 pub record MakesRehearsed {S : Type 0} (script : Reader S) (status : Status) (text : List ℕ) : Type 0 where
   pub sites : ℕ
   pub events : List Event
@@ -47,7 +47,7 @@ pub record MakesRehearsed {S : Type 0} (script : Reader S) (status : Status) (te
   pub tells : TellsEvents sites events text
   pub status_is : status ≡ Done
 
--- `rehearse`, over this script
+-- `rehearse`, for this script
 abbrev pub rehearse : {S : Type 0} → Reader S → Query
 rehearse script = record {
   Makes = MakesRehearsed script;

@@ -1,4 +1,4 @@
--- Sites that exchange files: the state of all of them, an event, how it changes them, and the answer to it.
+-- Sites that exchange files: the state of all sites, an event, its effect, and its outcome.
 use Rattle.std.specs.Prelude.{Result, ℕ, zero, suc, List, [], ◌∷◌, ◌++◌, Bool, true}
 use Rattle.std.specs.Prelude.{false, ◌==◌, if◌then◌else◌, nat_lt, length, slice_get}
 use Rattle.std.specs.declared.option.Option.{Option}
@@ -9,7 +9,7 @@ use Rattle.std.specs.FinSet as set
 use Rattle.archive_core.specs.Content.{Operations, with_record, with_records, changes, joined}
 use Rattle.archive_core.specs.Summary.{Entries, summary, delta}
 
--- what one site sends to another: a content, or the summary of one
+-- a message from one site to another: a content, or the summary of one
 pub data Message : Type 0 where
   Content : (operations : Operations) → Message
   Summary : (entries : Entries) → Message
@@ -18,7 +18,7 @@ abbrev pub is_summary : Message → Bool
 is_summary (Content o) = false
 is_summary (Summary s) = true
 
--- the operations of a message, and the entries of one
+-- the operations of a message, and the entries of a message
 abbrev pub operations_of : Message → Operations
 operations_of (Content o) = o
 operations_of (Summary s) = set.empty
@@ -27,8 +27,8 @@ abbrev pub entries_of : Message → Entries
 entries_of (Content o) = set.empty
 entries_of (Summary s) = s
 
--- what a file is to a site: for each of its parts the record of its admission, or none where the part is skipped; or
--- the fault F for which the file is refused
+-- a file in the model: for each of its parts the record of its admission, or none if the part is skipped; or the fault
+-- F for which the file is refused
 abbrev pub File : Type 0 → Type 0
 File F = Result (List (Option (List ℕ))) F
 
@@ -36,8 +36,8 @@ File F = Result (List (Option (List ℕ))) F
 abbrev pub records : List (Option (List ℕ)) → List (List ℕ)
 records parts = filter_map (λ part. part) parts
 
--- what happens at a site: it takes a file or the record of a retirement, sends its whole content, asks with its
--- summary, replies to a summary, is given a message, saves, or stops and begins again from what it saved
+-- an event at a site: it takes a file or the record of a retirement, sends its whole content, asks with its summary,
+-- replies to a summary, receives a message, saves, or stops and begins again from the saved bytes
 pub data Event (F : Type 0) : Type 0 where
   Take : (site : ℕ) (file : File F) → Event F
   Retire : (site : ℕ) (retirement : List ℕ) → Event F
@@ -58,8 +58,8 @@ site_of (Deliver i m) = i
 site_of (Save i) = i
 site_of (Stop i) = i
 
--- why an event is refused: there is no such site, or no such message; a reply to a content; a summary that is
--- delivered; or the file's fault
+-- why an event is refused: there is no such site, or no such message; a reply to a content; a delivery of a summary; or
+-- the file's fault
 pub data Fault (F : Type 0) : Type 0 where
   NoSite : Fault F
   NoMessage : Fault F
@@ -67,14 +67,14 @@ pub data Fault (F : Type 0) : Type 0 where
   NotAContent : Fault F
   FileRefused : (fault : F) → Fault F
 
--- what became of a part of a file that was taken
+-- the result of one part of a file that was taken
 pub data Row : Type 0 where
   Added : (admission : List ℕ) → Row
   Known : (admission : List ℕ) → Row
   Skipped : Row
 
--- what is answered to an event: the rows of a file, whether a retirement is new, the number of the message that was
--- sent, that it was done, or why it was refused
+-- the outcome of an event: the rows of a file, whether a retirement is new, the number of the message that was sent,
+-- that it was done, or why it was refused
 pub data Outcome (F : Type 0) : Type 0 where
   Took : (rows : List Row) → Outcome F
   Retired : (new : Bool) → Outcome F
@@ -84,21 +84,21 @@ pub data Outcome (F : Type 0) : Type 0 where
   Stopped : Outcome F
   Refused : (fault : Fault F) → Outcome F
 
--- what each site holds and what it has saved, and every message that was ever sent, in their order
+-- the content and the saved content of each site, and every message that was ever sent, in their order
 pub record World : Type 0 where
   pub held : ℕ → Operations
   pub saved : ℕ → Operations
   pub messages : List Message
 
--- no site has anything, and nothing was sent
+-- each site is empty, and no message was sent
 abbrev pub start : World
 start = record { held = λ _. set.empty; saved = λ _. set.empty; messages = [] }
 
--- the same at each site but i, and o at i
+-- the same for each site except i, and o for i
 abbrev pub updated : (ℕ → Operations) → ℕ → Operations → ℕ → Operations
 updated sites i o j = if j == i then o else sites j
 
--- why an event is refused, the least fault first: NoSite, NoMessage, NotASummary or NotAContent, FileRefused
+-- why an event is refused, the first fault in this order: NoSite, NoMessage, NotASummary or NotAContent, FileRefused
 abbrev pub reply_fault : {F : Type 0} → Option Message → Option (Fault F)
 reply_fault None = Some NoMessage
 reply_fault (Some m) = if is_summary m then None else Some NotASummary
@@ -116,12 +116,12 @@ fault_at_site messages _ = None
 abbrev pub fault_of : {F : Type 0} → ℕ → World → Event F → Option (Fault F)
 fault_of sites w e = if nat_lt (site_of e) sites then fault_at_site w.messages e else Some NoSite
 
--- a message by what is at its number; one that is not there counts as an empty content
+-- the message, or an empty content if there is none
 abbrev pub message_or : Option Message → Message
 message_or None = Content set.empty
 message_or (Some m) = m
 
--- the world where site i holds o; where a message more was sent; where site i has saved what it holds
+-- the world after site i changed to o; after one more message; after site i saved its content
 abbrev pub with_held : World → ℕ → Operations → World
 with_held w i o = record w { held = updated w.held i o }
 
@@ -143,7 +143,7 @@ effect w (Deliver i m) = with_held w i (joined (w.held i) (operations_of (messag
 effect w (Save i) = with_saved w i
 effect w (Stop i) = with_held w i (w.saved i)
 
--- the world as it was where there is a fault, and the other one where there is none
+-- the old world if there is a fault, otherwise the new one
 abbrev pub unless : {F : Type 0} → Option (Fault F) → World → World → World
 unless (Some f) w v = w
 unless None w v = v
@@ -152,17 +152,18 @@ unless None w v = v
 abbrev pub happens : {F : Type 0} → ℕ → World → Event F → World
 happens sites w e = unless (fault_of sites w e) w (effect w e)
 
--- what becomes of a record that is taken
+-- the result of a record that is taken
 abbrev pub row_of : Operations → List ℕ → Row
 row_of o r = if changes o r then Added r else Known r
 
--- a row a part, in their order, each over what the parts before it left; laws.rows_in_order says what stands where
+-- a row for each part, in their order, each on the content after the parts before it; laws.rows_in_order describes the
+-- rows
 abbrev pub rows : Operations → List (Option (List ℕ)) → List Row
 rows o [] = []
 rows o (None ∷ parts) = Skipped ∷ rows o parts
 rows o (Some r ∷ parts) = row_of o r ∷ rows (with_record o r) parts
 
--- what is answered to an event that is not refused
+-- the outcome of an event that is not refused
 abbrev pub answer : {F : Type 0} → World → Event F → Outcome F
 answer w (Take i (Err f)) = Refused (FileRefused f)
 answer w (Take i (Ok parts)) = Took (rows (w.held i) parts)
@@ -174,7 +175,7 @@ answer w (Deliver i m) = Delivered
 answer w (Save i) = Saved
 answer w (Stop i) = Stopped
 
--- the refusal where there is a fault, and the other answer where there is none
+-- the refusal if there is a fault, otherwise the other outcome
 abbrev pub refused_or : {F : Type 0} → Option (Fault F) → Outcome F → Outcome F
 refused_or (Some f) o = Refused f
 refused_or None o = o
@@ -183,7 +184,7 @@ refused_or None o = o
 abbrev pub outcome : {F : Type 0} → ℕ → World → Event F → Outcome F
 outcome sites w e = refused_or (fault_of sites w e) (answer w e)
 
--- the world after the event of a number, if the list has one
+-- the world after the event with a number, if the list has one
 abbrev pub stepped : {F : Type 0} → ℕ → World → Option (Event F) → World
 stepped sites w None = w
 stepped sites w (Some e) = happens sites w e

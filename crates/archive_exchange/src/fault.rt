@@ -1,4 +1,4 @@
-//! Why a message is not joined, or not replied to.
+//! Why a message is not joined, or has no reply.
 
 use archive_records::RecordFault;
 use std::alloc::AllocError;
@@ -6,9 +6,9 @@ use std::alloc::AllocError;
 /// Why a message is not joined.
 #[derive(Clone, Copy, Debug, PartialEq, Eq)]
 pub enum DeliverFault {
-    /// It is no archive's text: what `read_archive` says of it.
+    /// It is no archive's text: the fault of `read_archive`.
     Refused(RecordFault),
-    /// A growth was refused.
+    /// Memory ran out.
     OutOfMemory,
 }
 
@@ -23,12 +23,12 @@ impl From<AllocError> for DeliverFault {
     }
 }
 
-/// Why a message is not replied to.
+/// Why a message has no reply.
 #[derive(Clone, Copy, Debug, PartialEq, Eq)]
 pub enum ReplyFault {
-    /// It is no summary's text: what `read_summary` says of it.
+    /// It is no summary's text: the fault of `read_summary`.
     NotASummary(RecordFault),
-    /// A growth was refused.
+    /// Memory ran out.
     OutOfMemory,
 }
 

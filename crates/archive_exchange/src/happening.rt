@@ -1,4 +1,4 @@
-//! What an event does at a site, and among sites.
+//! The effect of an event at a site, and among sites.
 ghost use Rattle.std.specs.Prelude.{◌≡◌, ◌<◌, ◌++◌, ◌∷◌, [], ℕ, List, length, IfOk, OnOk};
 ghost use Rattle.archive_core.specs.Record.{retirement_record};
 ghost use Rattle.archive_exchange.specs.World as model;
@@ -153,7 +153,7 @@ fn happen_at<A: Archive + Drop>(
     }
 }
 
-/// Carries an event out among sites. A lack of memory is no outcome.
+/// Carries an event out among sites. `OutOfMemory` is an error and no outcome.
 pub(crate) fn happen<A: Archive + Drop>(
     sites: &mut Vec<Site<A>, Heap>,
     messages: &mut Vec<Message, Heap>,

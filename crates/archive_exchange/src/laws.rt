@@ -1,7 +1,7 @@
-//! What holds of deliveries and of events.
+//! Laws about deliveries and events.
 //!
-//! Each law is the contract of a function that does nothing but call laws of the crates below, and speaks of the
-//! definitions alone: a caller that wants a law calls its function.
+//! Each law is the contract of a function that only calls laws of the crates below. Its clauses are about the
+//! definitions alone: a caller that needs a law calls its function.
 ghost use Rattle.std.specs.Prelude.{◌≡◌, ℕ, List};
 ghost use Rattle.archive_core.specs.Content.{IsContent, IsBelow};
 ghost use Rattle.archive_exchange.specs.SiteState.{SiteState, HasJoined, HasJoinedInPart};
@@ -10,8 +10,8 @@ ghost use Rattle.text_inputs.specs.declared.event.Event.{Event};
 
 use archive_admission::laws::one_take_fault;
 
-/// A delivery that stopped half way left a content between the old one and the one asked for, and gives the latter when
-/// it is made again.
+/// A delivery that stopped half way left a content between the old one and the result, and has the same result if it is
+/// repeated.
 pub fn delivery_resumed()
     ensures above { (text : List ℕ) (old mid : SiteState) → HasJoinedInPart text old mid → IsBelow old.held mid.held }
     ensures below { (text : List ℕ) (old mid new : SiteState)
@@ -25,7 +25,7 @@ pub fn delivery_resumed()
         → HasJoined text old new }
 {}
 
-/// Each list of events is one list to the definitions of `specs/World`.
+/// Each list of events is exactly one list of events in the definitions of `specs/World`.
 pub fn one_meaning()
     ensures some { (events : List Event) → (seen : List ModelEvent) × AreSeen events seen }
     ensures one { (events : List Event) (seen other : List ModelEvent)

@@ -1,24 +1,24 @@
-//! Sites, each of which holds an archive and has saved one, and what they send to one another: by definitions alone, as
-//! it is carried out, and as the command `rehearse` answers it.
+//! Sites, each with an archive and a saved one, and the messages between them: as definitions, as a run of events, and
+//! as the command `rehearse`.
 //!
-//! - `specs/World`: an event, what it changes, what is answered, and the state after n events; `specs/Reached`: which
-//!   operations reach a site; `specs/Issued`: which were issued, and which message an event sent;
-//! - [`model_laws`]: what holds after any list of events, on any number of sites, by these definitions;
+//! - `specs/World`: an event, its effect, its outcome, and the state after n events; `specs/Reached`: which operations
+//!   reach a site; `specs/Issued`: which were issued, and which message an event sent;
+//! - [`model_laws`]: laws about any list of events, on any number of sites, for these definitions;
 //! - `site`: a site;
-//! - `fault`: why a message is not joined, or not replied to;
-//! - `message`, `outcome`: what a site sends, and what is answered to an event;
-//! - `happening`: what an event does among sites;
-//! - `world`, `running`: what a list of events leaves, and [`run`];
-//! - [`laws`]: what holds of deliveries and of events;
+//! - `fault`: why a message is not joined, or has no reply;
+//! - `message`, `outcome`: a message of a site, and the outcome of an event;
+//! - `happening`: the effect of an event among sites;
+//! - `world`, `running`: the world after a list of events, and [`run`];
+//! - [`laws`]: laws about deliveries and events;
 //! - `lines`: the lines of `rehearse`; `rehearse`: the command.
 //!
 //! # Why it is so
 //!
-//! - A site of the definitions holds a content and has saved one. What reaches it is told by the list of events, with
-//!   no state, and is what it holds.
+//! - A site of the definitions holds a content and has saved one. The operations that reach it are a function of the
+//!   list of events, without a state, and their content is the site's content.
 //! - A site keeps its saved archive as a text.
-//! - That it is whole (`IsWhole`) is an invariant, and a clause of each call.
-//! - [`run`] has no limit of events.
+//! - A site is whole (`IsWhole`): that is an invariant, and a clause of each call.
+//! - [`run`] has no limit on the number of events.
 #![tactic(auto)]
 
 mod fault;

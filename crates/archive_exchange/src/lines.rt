@@ -16,7 +16,7 @@ use std::fmt::{self, Display};
 use text_reports::Text;
 use text_values::Spelled;
 
-// Why an event is refused, shown as this program prints it.
+// The fault of an event, with its text for the report.
 #[derive(Clone, Copy)]
 struct Refusal(EventFault);
 
@@ -59,7 +59,7 @@ fn added_count(rows: &[Taken]) -> usize
     rows.iter().filter(|row| is_added(row)).count()
 }
 
-// Whether a slice was known: there, or covered by a retirement.
+// Whether a slice was known: present, or covered by a retirement.
 fn is_known(row: &Taken) -> bool
     ensures { result ≡ is_known row.now }
 {
@@ -101,7 +101,7 @@ fn message_len<A: Archive>(world: &World<A>, message: u64) -> usize
     world.message(message).len()
 }
 
-// Writes what is answered to an event; of a message that was sent, how many bytes it has.
+// Writes the outcome of an event; for a message that was sent, also its size in bytes.
 #[tactic(auto, unfolding(crate::specs::EventLines::outcome_text, crate::specs::EventLines::sent_text))]
 fn push_outcome<A: Archive>(
     text: &mut String<Heap>,
@@ -130,8 +130,8 @@ fn push_outcome<A: Archive>(
     }
 }
 
-/// Writes the lines of a rehearsal's events: the number of each, counted from 0, and what is answered to it. Where
-/// memory is refused, a part of them may stand there.
+/// Writes the lines of a rehearsal's events: the number of each, counted from 0, and its outcome. If memory runs out,
+/// some of them may have been written.
 pub fn push_events<A: Archive>(
     text: &mut String<Heap>,
     world: &World<A>,
@@ -148,8 +148,8 @@ pub fn push_events<A: Archive>(
     Ok(())
 }
 
-/// Writes the line of a site: its number, how many records and bytes its archive has, and the SHA-256 of that archive's
-/// text.
+/// Writes the line of a site: its number, the numbers of records and bytes of its archive, and the SHA-256 of that
+/// archive's text.
 pub fn push_site(
     text: &mut String<Heap>,
     number: u32,

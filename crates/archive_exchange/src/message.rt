@@ -26,7 +26,7 @@ impl Message {
         Message { text }
     }
 
-    /// Its bytes.
+    /// The bytes of the message.
     pub fn text(&self) -> &[u8]
         ensures { result.now ≡ self.now }
     {

@@ -1,8 +1,9 @@
-//! What holds after any list of events, on any number of sites: with messages that are lost, repeated, reordered or
-//! delivered to another site, and with stops anywhere.
+//! Laws about any list of events, on any number of sites: with messages that are lost, repeated, reordered or delivered
+//! to another site, and with stops anywhere.
 //!
-//! Each law is the contract of a function with an empty body, and speaks of the definitions alone; `F` is the type of a
-//! refused file's fault. Events, sites and messages are counted from 0, and `n` events are the first `n` of the list.
+//! Each law is the contract of a function with an empty body. Its clauses are about the definitions alone; `F` is the
+//! type of a refused file's fault. Events, sites and messages are counted from 0, and `n` events are the first `n` of
+//! the list.
 ghost use Rattle.std.specs.Prelude.{◌≡◌, ◌↔◌, ◌≤◌, ℕ, suc, min, max, true, Some, None};
 ghost use Rattle.std.specs.Prelude.{is_none, List, length, map, take, slice_get};
 ghost use Rattle.std.specs.declared.option.Option.{Option};
@@ -14,7 +15,7 @@ ghost use Rattle.archive_exchange.specs.Reached.{is_accepted, senders, message_s
 ghost use Rattle.archive_exchange.specs.Issued.{AreIssued, AreRecords, DigestsDiffer};
 ghost use Rattle.archive_exchange.specs.Issued.{EntriesDiffer, IsExchange, IsQuiet};
 
-/// An event that is refused changes nothing and answers why; any other has its effect and its answer.
+/// A refused event changes nothing, and its outcome is the fault; any other event has its effect and its outcome.
 pub fn refused_changes_nothing<F>()
     ensures unchanged { (sites : ℕ) (w : World) (e : Event F) (f : Fault F)
         → fault_of sites w e ≡ Some f
@@ -30,7 +31,7 @@ pub fn refused_changes_nothing<F>()
         → outcome sites w e ≡ answer w e }
 {}
 
-/// There is a row a part, in the order of the file: it says of a record what becomes of it over the content with the
+/// There is one row for each part, in the order of the file: the row of a record is its result on the content with the
 /// records before it.
 pub fn rows_in_order()
     ensures number { (o : Operations) (parts : List (Option (List ℕ))) → length (rows o parts) ≡ length parts }
@@ -42,8 +43,8 @@ pub fn rows_in_order()
         → slice_get (rows o parts) i ≡ Some (row_of (with_records o (records (take i parts))) r) }
 {}
 
-/// What the list alone tells is what happens: an event is accepted just where nothing refuses it in the state before
-/// it, and the messages of that state are those that the accepted events before it have sent, in their order.
+/// The list alone determines the run: an event is accepted exactly if it has no fault in the state before it, and the
+/// messages of that state are those that the accepted events before it have sent, in their order.
 pub fn accepted_in_words<F>()
     ensures accepted { (sites : ℕ) (events : List (Event F)) (n : ℕ) (e : Event F)
         → is_accepted sites events (senders sites events n) (Some e)
@@ -54,34 +55,36 @@ pub fn accepted_in_words<F>()
         (senders sites events n) }
 {}
 
-/// What it says that an operation reaches a site: an accepted event before `n` of the site gave it, and each stop of
-/// the site since has a save or an ask of the site between that event and itself.
+/// An operation reaches a site if an accepted event before `n` of the site brought it, and each stop of the site since
+/// then has a save or an ask of the site between that event and the stop.
 pub fn reaching_in_words<F>()
     ensures { (sites : ℕ) (events : List (Event F)) (had_by : ℕ → ℕ → Operations) (o : List ℕ) (i n : ℕ)
         → (set.contains (reaching sites events had_by i n) o ≡ true) ↔ Reaches sites events had_by o i n }
 {}
 
-/// What a site holds is the content that the operations make which reach it, after all events and after each number
-/// of them.
+/// A site holds the content of the operations that reach it, after all events and after each number of them.
 pub fn reached_is_held<F>()
     ensures end { (sites : ℕ) (events : List (Event F)) (i : ℕ)
         → (state sites events (length events)).held i ≡ content_of (reached sites events i) }
     ensures each { (sites : ℕ) (events : List (Event F)) (n i : ℕ)
         → (state sites events n).held i ≡ had sites events n i }
-    // What was had is what reached, of messages that what was had makes.
+    // The operations that a site had are the content of those that reached it by messages from sites with these
+    // operations.
     ensures meant { (sites : ℕ) (events : List (Event F)) (n i : ℕ)
         → had sites events n i ≡ content_of (reaching sites events (had sites events) i n) }
 {}
 
-/// Sites that operations reached which make the same content hold the same, after one list of events or after two.
+/// If the operations that reached two sites have the same content, the sites hold the same content, after one list of
+/// events or after two.
 pub fn same_operations_same_content<F>()
     ensures { (sites others : ℕ) (events later : List (Event F)) (i j : ℕ)
         → content_of (reached sites events i) ≡ content_of (reached others later j)
         → (state sites events (length events)).held i ≡ (state others later (length later)).held j }
 {}
 
-/// What a site holds and has saved was issued: an accepted take or retirement of the list gave it. What it has saved
-/// stays below what it saves and holds later: slices that were retired since are gone, and nothing else.
+/// Each operation that a site holds or has saved was issued: an accepted take or retirement of the list brought it. The
+/// saved content stays below the contents that the site saves and holds later: only slices that were retired since then
+/// are missing.
 pub fn issued_and_kept<F>()
     ensures held { (sites : ℕ) (events : List (Event F)) (n i : ℕ)
         → AreIssued sites events ((state sites events n).held i) }
@@ -95,7 +98,7 @@ pub fn issued_and_kept<F>()
         → IsBelow ((state sites events n).saved i) ((state sites events m).held i) }
 {}
 
-/// Where what was issued are records of operations, what a site holds and has saved are contents.
+/// If the issued operations are records, the operations that a site holds and those that it has saved are contents.
 pub fn records_make_contents<F>()
     ensures held { (sites : ℕ) (events : List (Event F)) (n i : ℕ)
         → AreRecords sites events
@@ -105,7 +108,7 @@ pub fn records_make_contents<F>()
         → IsContent ((state sites events n).saved i) }
 {}
 
-/// Where no two different issued slices have one SHA-256, no two different issued operations have one entry.
+/// If no two different issued slices have the same SHA-256, no two different issued operations have the same entry.
 pub fn digests_differ<F>()
     ensures { (sites : ℕ) (events : List (Event F))
         → AreRecords sites events
@@ -113,9 +116,9 @@ pub fn digests_differ<F>()
         → EntriesDiffer sites events }
 {}
 
-/// A delta that was made in reply to a summary of site `i`, however old, lifts it above what the replier `x` held then,
-/// whatever stopped between, and whatever slices the site has retired since it asked: event `a` asks, `r` replies, `k`
-/// delivers.
+/// A delta in reply to a summary of site `i`, however old, raises the site above the content of the replier `x` at the
+/// reply, whatever stopped between, and whatever slices the site has retired since it asked: event `a` asks, `r`
+/// replies, `k` delivers.
 pub fn asker_is_above_replier<F>()
     ensures { (sites : ℕ) (events : List (Event F)) (i x a r k : ℕ)
         → AreRecords sites events
@@ -124,8 +127,8 @@ pub fn asker_is_above_replier<F>()
         → IsBelow ((state sites events r).held x) ((state sites events (suc k)).held i) }
 {}
 
-/// Two sites that replied to each other's summaries, and from the earlier ask to the later delivery took, retired,
-/// were given or stopped nothing else, hold the same.
+/// If two sites replied to each other's summaries, and from the earlier ask to the later delivery had no other take,
+/// retirement, delivery or stop, they hold the same content.
 pub fn mutual_replies_agree<F>()
     ensures { (sites : ℕ) (events : List (Event F)) (i j a r d b s e : ℕ)
         → AreRecords sites events

@@ -1,25 +1,25 @@
-//! What is answered to an event.
+//! The outcome of an event.
 
 use archive_admission::{TakeFault, Taken};
 use archive_records::RecordFault;
 use memory::Heap;
 
-/// Why an event is refused. Where several apply it is the first of them here.
+/// Why an event is refused. If several faults apply, it is the first of them in this order.
 #[derive(Clone, Copy, Debug, PartialEq, Eq)]
 pub enum EventFault {
-    /// There is no site of that number.
+    /// There is no site with that number.
     NoSite,
-    /// No message of that number was sent before.
+    /// No message with that number was sent before.
     NoMessage,
-    /// The message to reply to is no summary: what `read_summary` says of it.
+    /// The message to reply to is no summary: the fault of `read_summary`.
     NotASummary(RecordFault),
-    /// The message to deliver is no archive: what `read_archive` says of it.
+    /// The message to deliver is no archive: the fault of `read_archive`.
     Refused(RecordFault),
-    /// The file is refused. A lack of memory is never told here.
+    /// The file is refused, and never for `OutOfMemory`.
     File(TakeFault),
 }
 
-/// What is answered to an event.
+/// The outcome of an event.
 #[derive(Debug, Drop)]
 pub enum Outcome {
     /// A row for each part of the file, in its order.

@@ -20,7 +20,7 @@ use memory::{Heap, NoMemory};
 use sha2::{Digest as _, Sha256};
 use text_inputs::Script;
 
-/// Adds the line of a site, of which the archive's text is made for its sizes and its SHA-256.
+/// Adds the line of a site; its archive's text is built for its size and its SHA-256.
 fn push_held<A: Archive + Drop>(
     text: &mut String<Heap>,
     number: u32,
@@ -59,14 +59,14 @@ fn lines_of<A: Archive + Drop>(heap: Heap, script: &Script) -> Result<String<Hea
     Ok(text)
 }
 
-/// Carries out the events of SCRIPT on sites that begin empty, and writes a line an event to the report, and after
-/// them a line a site: how many records and bytes its archive has, and the SHA-256 of that archive's text. The script
-/// is read to its end before anything is carried out, and the lines are made whole before any is written. Why an event
-/// is refused stands in its line; the status is `Done` all the same.
+/// Carries out the events of SCRIPT on sites that begin empty, and writes a line for each event to the report, and then
+/// a line for each site: the numbers of records and bytes of its archive, and the SHA-256 of that archive's text. The
+/// script is read to its end before anything is carried out, and all lines are built before any is written. The line of
+/// a refused event says why; the status is `Done` all the same.
 ///
 /// # Errors
 ///
-/// `Input` where the script is refused; `Report` where the report failed; `OutOfMemory`, at whatever event.
+/// `Input` if the script is refused; `Report` if the report failed; `OutOfMemory`, at any event.
 pub fn run_rehearse<A: Archive + Drop, S: Source, P: Sink>(
     heap: Heap,
     script: &mut S,

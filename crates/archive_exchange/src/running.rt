@@ -54,11 +54,11 @@ fn carry_out<A: Archive + Drop>(
     Ok((World::new(row, messages), outcomes))
 }
 
-/// Carries out a list of events on so many sites, which begin empty, and gives the world that they leave and an outcome
-/// an event. Any events, in any order: a refused one changes nothing.
+/// Carries out a list of events on this number of sites, which begin empty, and returns the world after them and an
+/// outcome for each event. Any events, in any order: a refused one changes nothing.
 ///
-/// Each clause speaks of what the events are to the definitions of `specs/World`, as `laws::one_meaning` says of each
-/// list. A lack of memory at any event refuses the run.
+/// The clauses are about the events in the definitions of `specs/World`; by `laws::one_meaning` each list has exactly
+/// one. If memory runs out at any event, the run fails.
 pub fn run<A: Archive + Drop>(
     heap: Heap,
     sites: u32,
@@ -72,29 +72,30 @@ pub fn run<A: Archive + Drop>(
     ensures outcomes { IfOk result (λ done. OfEvents events.now (λ seen.
         AllZip OutcomeIs done.1.items (outcomes sites seen (length seen)))) }
 
-    // A site holds the content that the operations make which reach it.
+    // A site holds the content of the operations that reach it.
     ensures reached { IfOk result (λ done. OfEvents events.now (λ seen. (i : ℕ) (site : SiteState)
         → slice_get done.0.sites i ≡ Some site
         → site.held ≡ content_of (reached sites seen i))) }
 
     // The headline: sites that the same operations reached, here or in any other run, hold the same content, write the
-    // same bytes and answer every lookup alike.
+    // same bytes and have the same answer to every lookup.
     ensures same_operations_same_bytes { IfOk result (λ done. OfEvents events.now (λ seen.
         (i : ℕ) (site : SiteState) (others : ℕ) (later : List ModelEvent) (j : ℕ)
         → slice_get done.0.sites i ≡ Some site
         → content_of (reached sites seen i) ≡ content_of (reached others later j)
         → AreAlike site.held ((state others later (length later)).held j))) }
 
-    // What its events issue are records of operations. That is the premise of the laws of events, and of `headline`.
+    // The operations that its events issue are records. That is the premise of the laws of events, and of `headline`.
     ensures records { IfOk result (λ _. OfEvents events.now (λ seen. AreRecords sites seen)) }
 
-    // Nothing is held or saved that was not issued.
+    // Each operation that is held or saved was issued.
     ensures held_was_issued { IfOk result (λ _. OfEvents events.now (λ seen. (n i : ℕ)
         → AreIssued sites seen ((state sites seen n).held i))) }
     ensures saved_was_issued { IfOk result (λ _. OfEvents events.now (λ seen. (n i : ℕ)
         → AreIssued sites seen ((state sites seen n).saved i))) }
 
-    // What a site has saved is below what it has saved later, and below what it holds then and later.
+    // The saved content of a site is below the contents that it saves later, and below those that it holds then and
+    // later.
     ensures saved_grows { IfOk result (λ _. OfEvents events.now (λ seen. (n m i : ℕ)
         → n ≤ m
         → IsBelow ((state sites seen n).saved i) ((state sites seen m).saved i))) }
@@ -102,14 +103,14 @@ pub fn run<A: Archive + Drop>(
         → n ≤ m
         → IsBelow ((state sites seen n).saved i) ((state sites seen m).held i))) }
 
-    // Where no two different issued slices share a SHA-256: a site that takes a delta made in reply to any summary that
-    // it sent is above what the replier held then.
+    // If no two different issued slices have the same SHA-256: a site that receives a delta in reply to any of its
+    // summaries is above the content of the replier at the reply.
     ensures lifted { IfOk result (λ _. OfEvents events.now (λ seen. (i x a r k : ℕ)
         → DigestsDiffer sites seen
         → IsExchange sites seen i x a r k
         → IsBelow ((state sites seen r).held x) ((state sites seen (suc k)).held i))) }
 
-    // And two sites that answer each other's summaries, and are quiet meanwhile, end alike.
+    // And two sites that reply to each other's summaries, and are quiet meanwhile, hold the same content.
     ensures agreed { IfOk result (λ _. OfEvents events.now (λ seen. (i j a r d b s e : ℕ)
         → DigestsDiffer sites seen
         → IsExchange sites seen i j a r d

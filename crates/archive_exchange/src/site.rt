@@ -72,7 +72,7 @@ fn parse_summary(heap: Heap, text: &[u8]) -> Result<Summary, ReplyFault>
     }
 }
 
-/// The text of what an archive holds beyond a summary.
+/// The text of the operations of an archive that a summary lacks.
 fn text_of_delta<A: Archive>(
     heap: Heap,
     archive: &A,
@@ -87,11 +87,11 @@ fn text_of_delta<A: Archive>(
     }
 }
 
-/// A site: an archive, which holds a content, and the bytes that it saved, which are the text of one.
+/// A site: an archive with a content, and the saved bytes, which are the text of a content.
 ///
-/// Each call that makes or changes a site says so of the one that it leaves (`whole`). So what a lack of memory leaves
-/// of `take_file` and `deliver` is between the content before the call and the one that was asked for, by their
-/// contracts alone.
+/// Each call that creates or changes a site says this of the new state (`whole`). So if `take_file` or `deliver` runs
+/// out of memory, the content is between the one before the call and the result of a complete call, by their contracts
+/// alone.
 #[derive(Drop)]
 pub struct Site<A: Archive> {
     archive: A,
@@ -133,8 +133,8 @@ impl<A: Archive + Drop> Site<A> {
     ///
     /// # Errors
     ///
-    /// Those of `check_file`, which leave the site as it was, and `OutOfMemory`, after which some first ones of the
-    /// file's slices may have been taken; the call may then be made again.
+    /// Those of `check_file`, which leave the site unchanged, and `OutOfMemory`, after which the first slices of the
+    /// file may have been admitted; the call may then be repeated.
     pub fn take_file(&mut self, file: &[u8]) -> Result<Vec<Taken, Heap>, TakeFault>
         ensures accepted { OnOk result (IsAcceptedFile file.now) }
         ensures held { OnOk result (self.new.held ≡ admitted self.old.held (admissible file.now)) }
@@ -153,8 +153,8 @@ impl<A: Archive + Drop> Site<A> {
         Ok(rows)
     }
 
-    /// Takes the retirement of the slices under a key that have a digest, and answers whether it is new. A lack of
-    /// memory leaves the site as it was.
+    /// Adds the retirement of the slices with a key and a digest, and returns whether it is new. If memory runs out,
+    /// the site is unchanged.
     pub fn retire(&mut self, key: SliceKey, digest: Digest) -> Result<bool, NoMemory>
         ensures held { OnOk result (self.new.held ≡ with_record self.old.held (retirement_record key digest.0)) }
         ensures new { IfOk result (λ new. new ≡ changes self.old.held (retirement_record key digest.0)) }
@@ -173,7 +173,8 @@ impl<A: Archive + Drop> Site<A> {
         archive_text(self.saved.allocator().share(), &self.archive)
     }
 
-    /// Saves, and gives the text of the summary of what it saved. A lack of memory may leave it saved.
+    /// Saves the archive, and returns the text of the summary of its content. If memory runs out, the archive may have
+    /// been saved.
     pub fn ask(&mut self) -> Result<Vec<u8, Heap>, NoMemory>
         ensures text { IfOk result (λ text. text.items ≡ summary_text (summary self.old.held)) }
         ensures held { self.new.held ≡ self.old.held }
@@ -185,11 +186,11 @@ impl<A: Archive + Drop> Site<A> {
         text_of_summary(self.saved.allocator().share(), &self.archive)
     }
 
-    /// The text of what the site holds beyond the summary that a message is.
+    /// The text of the operations of the site that the summary in a message lacks.
     ///
     /// # Errors
     ///
-    /// `NotASummary` where the message is no summary's text, and `OutOfMemory`.
+    /// `NotASummary` if the message is no summary's text, and `OutOfMemory`.
     pub fn reply(&self, message: &[u8]) -> Result<Vec<u8, Heap>, ReplyFault>
         ensures replies { IfOk result (λ text. RepliesTo message.now self.now.held text.items) }
         ensures refused { IfErr result (IsReplyFault message.now) }
@@ -199,13 +200,13 @@ impl<A: Archive + Drop> Site<A> {
         Ok(text)
     }
 
-    /// Joins the archive whose text a message is.
+    /// Joins the archive whose text is the message.
     ///
     /// # Errors
     ///
-    /// `Refused` where the message is no archive's text, which leaves the site as it was, and `OutOfMemory`, after
-    /// which some of the message's operations may have been taken in; the call may then be made again with the message,
-    /// which the caller still has.
+    /// `Refused` if the message is no archive's text, which leaves the site unchanged, and `OutOfMemory`, after which
+    /// some of the message's operations may have been added; the call may then be repeated with the message, which the
+    /// caller still has.
     pub fn deliver(&mut self, message: &[u8]) -> Result<(), DeliverFault>
         ensures joined { OnOk result (HasJoined message.now self.old self.new) }
         ensures refused { IfErr result (IsDeliverFault message.now) }
@@ -218,7 +219,7 @@ impl<A: Archive + Drop> Site<A> {
         Ok(())
     }
 
-    /// Saves the archive: the saved bytes become its text. A lack of memory leaves the site as it was.
+    /// Saves the archive: the saved bytes become its text. If memory runs out, the site is unchanged.
     pub fn save(&mut self) -> Result<(), NoMemory>
         ensures held { self.new.held ≡ self.old.held }
         ensures saved { OnOk result (self.new.saved ≡ written self.old.held) }
@@ -229,8 +230,7 @@ impl<A: Archive + Drop> Site<A> {
         Ok(())
     }
 
-    /// Stops, and begins again: the archive becomes what the saved bytes say. A lack of memory leaves the site as it
-    /// was.
+    /// Stops, and begins again: the archive is read from the saved bytes. If memory runs out, the site is unchanged.
     pub fn stop(&mut self) -> Result<(), NoMemory>
         ensures held { OnOk result (IsArchiveTextOf self.old.saved self.new.held) }
         ensures saved { self.new.saved ≡ self.old.saved }

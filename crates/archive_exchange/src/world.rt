@@ -1,4 +1,4 @@
-//! What a rehearsal leaves.
+//! The world after a rehearsal.
 ghost use Rattle.std.specs.Prelude.{◌≡◌, ◌<◌, Some, length, slice_get};
 ghost use Rattle.archive_exchange.specs.SiteState.{IsWhole};
 ghost use Rattle.archive_exchange.specs.WorldState.{AreSites};
@@ -37,7 +37,7 @@ impl<A: Archive> World<A> {
         World { sites, messages }
     }
 
-    /// How many sites there are.
+    /// The number of sites.
     pub fn sites(&self) -> u32
         ensures { result ≡ length self.now.sites }
     {

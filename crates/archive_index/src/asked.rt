@@ -1,4 +1,4 @@
-//! Slices that answer under a key, and what they tell.
+//! Slices that answer for a key, and their answers.
 ghost use Rattle.std.specs.Prelude.{◌≡◌, ◌∷◌, [], ◌++◌, ℕ, List};
 ghost use Rattle.std.specs.Option.{option_map};
 ghost use Rattle.macho_symbols.specs.Views.{found_view};
@@ -11,7 +11,7 @@ use archive_core::{Answer, Digest, Own, Slice, Where};
 use macho_symbols::Found;
 use std::marker::Model;
 
-// A slice that is asked. A contract sees it as the slice's bytes.
+// A slice that is looked up. A contract sees it as the slice's bytes.
 #[derive(Drop)]
 pub(crate) struct AskedSlice<'a> {
     slice: &'a Slice,
@@ -25,7 +25,7 @@ impl<'a> Model for AskedSlice<'a> {
     ghost view = { λ asked. asked.slice.now };
 }
 
-// What is kept of slices as they are counted: at most one of them is asked alone.
+// The slices that answer, counted: if there is only one, it is kept.
 #[derive(Drop)]
 pub(crate) enum Answering<'a> {
     Nothing,
@@ -34,21 +34,21 @@ pub(crate) enum Answering<'a> {
 }
 
 impl<'a> AskedSlice<'a> {
-    // The slice.
+    // Wraps the slice.
     pub(crate) fn of(slice: &'a Slice) -> AskedSlice<'a>
         ensures { result ≡ slice.now }
     {
         AskedSlice { slice }
     }
 
-    // The slice that is asked.
+    // The slice that is looked up.
     pub(crate) fn slice(&self) -> &'a Slice
         ensures { result.now ≡ self.now }
     {
         self.slice
     }
 
-    // What the slice tells of a place.
+    // The answer of the slice for an address.
     pub(crate) fn own(&self, asked: Where) -> Own<'a>
         ensures { IsOwn self.now asked (own_view result) }
     {
@@ -58,7 +58,7 @@ impl<'a> AskedSlice<'a> {
         }
     }
 
-    // The slice's digest and what it tells of a place.
+    // The slice's digest, and its answer for an address.
     pub(crate) fn row(&self, asked: Where) -> (Digest, Own<'a>)
         ensures { IsOwnRow asked self.now (own_row result) }
     {
@@ -67,7 +67,7 @@ impl<'a> AskedSlice<'a> {
 }
 
 impl<'a> Answering<'a> {
-    // The same with one slice more.
+    // The same with one more slice.
     pub(crate) fn and(self, slice: AskedSlice<'a>) -> Answering<'a>
         ensures { (slices : List (List ℕ)) → IsAnsweringOf self.entry slices
             → IsAnsweringOf result (slices ++ slice.entry ∷ []) }
@@ -79,14 +79,14 @@ impl<'a> Answering<'a> {
     }
 }
 
-/// Whether a slice is a companion, where one is asked for, or else whether it is none.
+/// Whether a slice is a companion, or, without the flag, whether it is not one.
 pub fn is_kind(dsym: bool, slice: &Slice) -> bool
     ensures { result ≡ is_kind dsym slice.now }
 {
     slice.image().is_dsym() == dsym
 }
 
-// What a slice tells where this is the nearest symbol.
+// The answer of a slice with this nearest symbol.
 fn own_of(found: Option<Found<'_>>) -> Own<'_>
     ensures { own_view result ≡ option_map found_view found.entry }
 {
@@ -96,18 +96,18 @@ fn own_of(found: Option<Found<'_>>) -> Own<'_>
     }
 }
 
-/// The address in a slice's file that a place stands for.
+/// The address in a slice's file of an asked address.
 pub fn file_address(slice: &Slice, asked: Where) -> Option<u64>
     ensures { result ≡ file_address slice.now asked }
 {
     match asked {
         Where::File(address) => Some(address),
-        // The load commands are read for a loaded address alone.
+        // The load commands are read only for a loaded address.
         loaded => loaded.address_by(slice.image().text_base()),
     }
 }
 
-/// What the only slice that answers tells.
+/// The answer of the only slice that answers.
 pub fn answer_of_one(own: Own<'_>) -> Answer<'_>
     ensures { answer_view result ≡ Alone (own_view own.entry) }
 {

@@ -1,4 +1,4 @@
-//! Slices that the retirements of an archive cover. No slice that is held is one.
+//! Slices that the retirements of an archive cover. The archive holds none of them.
 ghost use Rattle.std.specs.Prelude.{◌≡◌, ◌+◌, ◌<◌, ◌≤◌, ◌||◌, ℕ, List, [], ◌∷◌, ◌++◌, true, false, length, take, drop};
 ghost use Rattle.std.specs.Prelude.{map, filter, not};
 ghost use Rattle.std.specs.FinSet as set;
@@ -20,7 +20,7 @@ use archive_core::{Digest, Operation, Slice, SliceKey, retirement};
 use memory::Heap;
 use std::marker::Model;
 
-// The operations of an archive, borrowed. A contract sees them as the content that they make.
+// The operations of an archive, borrowed. A contract sees them as their content.
 #[derive(Drop)]
 pub(crate) struct BorrowedOperations<'a> {
     operations: &'a [Operation],
@@ -44,7 +44,7 @@ impl<'a> Model for BorrowedOperations<'a> {
     ghost invariant = { λ borrowed. IsHeld borrowed.operations.now };
 }
 
-// Whether one of the operations retires a slice. Its digest is asked for only where a retirement of its key stands.
+// Whether one of the operations retires a slice. Its digest is needed only if there is a retirement with its key.
 fn retires(operations: &[Operation], slice: &Slice, near: &mut usize) -> bool
     requires { IsHeld operations.now }
     ensures { result
@@ -66,7 +66,7 @@ impl<'a> BorrowedOperations<'a> {
         BorrowedOperations { operations }
     }
 
-    // Whether retirements are there. They stand first.
+    // Whether there are retirements. They are first in the list.
     fn has_retirements(&self) -> bool
         ensures none { result ≡ false → (r : List ℕ) → is_covered self.now r ≡ false }
     {
@@ -79,7 +79,7 @@ impl<'a> BorrowedOperations<'a> {
         }
     }
 
-    // Whether a retirement covers the slice. It is looked for near the place where that of another was.
+    // Whether a retirement covers the slice. The search begins near the index of the last one.
     pub(crate) fn retires(&self, slice: &Slice, near: &mut usize) -> bool
         ensures retires { result
             ≡ set.contains self.now (retirement_record (key_of slice.now) (sha256 slice.now)) }
@@ -89,8 +89,8 @@ impl<'a> BorrowedOperations<'a> {
         retires(self.operations, slice, near)
     }
 
-    // Keeps the digest of a slice where a retirement of its key stands: whoever asks whether that covers the slice asks
-    // for it.
+    // Keeps the digest of a slice if there is a retirement with its key: a test whether that covers the slice needs the
+    // digest.
     pub(crate) fn keep_digest(&self, slice: &mut Slice, near: &mut usize)
         ensures { slice.new ≡ slice.old }
     {
@@ -99,7 +99,7 @@ impl<'a> BorrowedOperations<'a> {
         }
     }
 
-    // The same of what an operation admits.
+    // The same for the slice of an operation.
     pub(crate) fn keep_digest_of(&self, operation: &mut Operation, near: &mut usize)
         ensures { operation.new ≡ operation.old }
     {
@@ -118,7 +118,7 @@ impl<'a> BorrowedOperations<'a> {
         }
     }
 
-    // Whether the operation is there, or covered.
+    // Whether the operation is in the archive, or is covered.
     #[tactic(auto, unfolding(archive_core::specs::Content::changes))]
     pub(crate) fn knows(&self, operation: &Operation, near: &mut usize) -> bool
         ensures knows { result
@@ -129,7 +129,7 @@ impl<'a> BorrowedOperations<'a> {
     }
 }
 
-// Keeps the digests of those operations whose keys have a retirement.
+// Keeps the digests of those operations for whose keys there is a retirement.
 fn keep_digests(operations: &mut [Operation], by: &BorrowedOperations<'_>)
     ensures { operations.new ≡ operations.old }
 {
@@ -139,7 +139,7 @@ fn keep_digests(operations: &mut [Operation], by: &BorrowedOperations<'_>)
     }
 }
 
-// Drops the operations that are covered. Where no retirement is borrowed, none is asked for.
+// Drops the operations that are covered. If no retirement is borrowed, none is tested.
 pub(crate) fn drop_covered(operations: &mut Vec<Operation, Heap>, by: &BorrowedOperations<'_>)
     ensures items { operations.new.items
         ≡ filter (λ operation. not (is_covered by.now (record_bytes operation))) operations.old.items }
@@ -162,7 +162,7 @@ fn drop_at(operations: &mut Vec<Operation, Heap>, index: usize)
     operations.remove(index);
 }
 
-// Drops the slices that one retirement covers. They are looked for among those of its key alone.
+// Drops the slices that one retirement covers. Only those with its key are searched.
 pub(crate) fn drop_retired(operations: &mut Vec<Operation, Heap>, key: &SliceKey, digest: &Digest)
     requires ascending { IsStrictlySortedBy (slice_cmp nat_cmp) (map record_bytes operations.old.items) }
     requires are { AllByRecursion IsOperation operations.old.items }

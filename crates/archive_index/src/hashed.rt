@@ -1,4 +1,4 @@
-//! An operation beside the row that a search tells of it.
+//! An operation with its row for a search.
 ghost use Rattle.std.specs.Prelude.{◌≡◌, map, IfOk};
 ghost use Rattle.archive_core.specs.Find.{find_cmp, row_of};
 ghost use Rattle.archive_core.specs.Record.{IsOperation, operation_borrowed};
@@ -8,8 +8,7 @@ use memory::{Heap, NoMemory};
 use std::cmp::Ordering;
 use std::marker::Model;
 
-/// An operation that a search tells, beside its row, so that a slice is hashed once. A contract sees
-/// it as the operation.
+/// An operation that a search found, with its row, so that a slice is hashed once. A contract sees it as the operation.
 #[derive(Drop)]
 pub struct HashedRecord<'a> {
     operation: Record<'a>,

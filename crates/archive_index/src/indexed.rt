@@ -1,4 +1,4 @@
-//! An archive with tables of addresses beside its slices.
+//! An archive whose slices have tables of addresses.
 use crate::PlainArchive;
 use archive_core::{
     Answer, Archive, Contents, FindRow, NameRow, Operation, Record, Slice, SliceKey, Where,
@@ -8,12 +8,11 @@ use memory::{Heap, NoMemory};
 use std::marker::Model;
 use uuid::Uuid;
 
-/// An archive with tables of addresses in memory; they have nothing to do with the indexes of `--index`.
+/// An archive with tables of addresses in memory; they are unrelated to the indexes of `--index`.
 ///
-/// It is a sorted list of operations, in which each slice has its table beside it, and its digest where a lookup of its
-/// key may tell it.
+/// It is a sorted list of operations. Each slice has its table, and its digest if a lookup of its key may return it.
 ///
-/// A table is built before its slice is taken, unless that is there, and moves with it; a copy that a join takes in
+/// A table is built before its slice is added, unless the slice is present, and moves with it; a copy that a join adds
 /// gets its own. So a lookup scans no symbols.
 #[derive(Drop)]
 pub struct IndexedArchive {

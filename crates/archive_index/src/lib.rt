@@ -1,22 +1,22 @@
-//! An archive as one sorted list of operations, what is looked up in it, and many operations taken at once.
+//! An archive as one sorted list of operations, lookups in it, and changes by many operations at once.
 //!
 //! - `covered`: slices that retirements cover;
 //! - `parting`: the admissions of a list, and after them its retirements;
 //! - `taking`: many operations at once;
-//! - `hashed`: an operation beside the row that a search tells of it;
-//! - `asked`: slices that answer under a key, and what they tell;
+//! - `hashed`: an operation with its row for a search;
+//! - `asked`: slices that answer for a key, and their answers;
 //! - `name_rows`: the rows of a name in slices;
-//! - `range`: the operations of one kind under one key;
+//! - `range`: the operations of one kind with one key;
 //! - `plain`: an archive as a sorted list;
-//! - `indexed`: the same, whose slices have tables of addresses.
+//! - `indexed`: the same, with tables of addresses for its slices.
 //!
 //! # Why it is so
 //!
 //! - An archive is one ascending list, retirements first, and no map.
-//! - `absorb` sorts both lists in one pass, or takes up to eight operations one by one. [`take_each`] takes
+//! - `absorb` merges both sorted lists in one pass, or inserts up to eight operations one by one. [`take_each`] adds
 //!   admissions, then retirements.
-//! - Seven lines run only for the fact that they give. Names are scanned: only `symbolicate` and `frames` use
-//!   [`IndexedArchive`].
+//! - Seven lines are executed only for a fact in their contracts. Names are scanned: only `symbolicate` and `frames`
+//!   use [`IndexedArchive`].
 #![tactic(auto)]
 
 mod asked;

@@ -24,7 +24,7 @@ pub(crate) fn rows_in<'a>(
         .collect(heap)
 }
 
-// Puts rows in order, and leaves each once.
+// Sorts the rows, and keeps each once.
 pub(crate) fn put_in_order(rows: &mut Vec<NameRow<'_>, Heap>)
     ensures ascending { IsStrictlySortedBy name_cmp (map name_view rows.new.items) }
     ensures same { (row : NameRecord)

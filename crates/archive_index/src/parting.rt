@@ -8,8 +8,8 @@ ghost use Rattle.archive_core.specs.declared.operations.Operation.TheVariants.{A
 use archive_core::{Digest, Operation, Retirements, Slice, SliceKey, retirement, retirement_bytes};
 use memory::{Heap, NoMemory};
 
-// The admissions of a list and its retirements, without those that are new nowhere where they come: a slice after its
-// retirement, and a retirement that came before.
+// The admissions of a list and its retirements, without those that are never new at their position: a slice after its
+// retirement, and a repeated retirement.
 #[derive(Drop)]
 pub(crate) struct Parts {
     pub(crate) admissions: Vec<Operation, Heap>,
@@ -17,7 +17,7 @@ pub(crate) struct Parts {
 }
 
 impl Parts {
-    // No operations.
+    // Creates empty parts.
     fn none(heap: &Heap) -> Parts
         ensures admissions { result.admissions.items ≡ [] }
         ensures retirements { result.retirements.items ≡ [] }
@@ -28,7 +28,7 @@ impl Parts {
         }
     }
 
-    // Puts an admission after the others, where none of the retirements before it covers it.
+    // Appends an admission, unless one of the retirements before it covers it.
     fn admit(&mut self, seen: &Retirements, mut slice: Slice) -> Result<(), NoMemory>
         ensures { OnOk result (IsPut (Admit slice)
             self.old.admissions.items self.old.retirements.items (set.from_list seen.now)
@@ -46,7 +46,7 @@ impl Parts {
         Ok(())
     }
 
-    // Puts a retirement after the others, where it is the first of its key and digest.
+    // Appends a retirement, if it is the first with its key and digest.
     fn retire(
         &mut self,
         seen: &mut Retirements,
@@ -65,7 +65,7 @@ impl Parts {
         Ok(())
     }
 
-    // Puts an operation into its part.
+    // Adds an operation to its part.
     fn put(&mut self, seen: &mut Retirements, operation: Operation) -> Result<(), NoMemory>
         ensures { OnOk result (IsPut operation
             self.old.admissions.items self.old.retirements.items (set.from_list seen.old)
@@ -79,7 +79,7 @@ impl Parts {
 }
 
 // The two parts of a list of operations.
-pub(crate) fn parts_of(operations: Vec<Operation, Heap>) -> Result<Parts, NoMemory>
+pub(crate) fn by_kind(operations: Vec<Operation, Heap>) -> Result<Parts, NoMemory>
     ensures { IfOk result (λ parts. (old : Operations) → IsMade old
         → IsParted old operations.items parts.admissions.items parts.retirements.items) }
 {

@@ -38,15 +38,15 @@ use uuid::Uuid;
 
 /// An archive as a list of operations, strictly ascending by their records.
 ///
-/// It is searched by halving. A `take` above the last operation only appends; any other shifts what
-/// stands after. A join copies what is missing, before it changes anything, and merges it with what is there. What is
-/// absorbed is merged, too, or put in at its place where it is little. A slice is hashed only where a retirement of its
-/// key is there or comes, once, and dropped where that covers it.
+/// It is searched by binary search. A `take` above the last operation only appends; any other shifts the operations
+/// after it. A join copies the missing operations before it changes anything, and merges them with the list. Absorbed
+/// operations are merged, too, or inserted one by one if they are few. A slice is hashed only if a retirement of its
+/// key is present or arrives, once, and is dropped if that covers it.
 #[derive(Drop)]
 pub struct PlainArchive {
     operations: Vec<Operation, Heap>,
-    // Where retirements were last looked for. No answer depends on it: slices that come in the order of their keys are
-    // found to be covered, or not, with few comparisons.
+    // The index of the last search for retirements. No result depends on it: for slices in the order of their keys, few
+    // comparisons show whether they are covered.
     near: usize,
 }
 
@@ -68,11 +68,11 @@ impl Model for PlainArchive {
     ghost invariant = { λ archive. IsHeld archive.operations.items };
 }
 
-// So many operations at most are put one by one into an archive that has as many, each by a search and a shift of what
-// stands after it. A merge goes through all that is there, and costs about as much as these.
+// At most this number of operations is inserted one by one into an archive that has as many, each with a search and a
+// shift of the operations after it. A merge goes through the whole list, and costs about as much.
 const FEW: usize = 8;
 
-// Where an operation stands among others that ascend, or where it would go.
+// The index of an operation among others that ascend, or where it would be inserted.
 pub(crate) fn search(operations: &[Operation], operation: &Operation) -> Result<usize, usize>
     requires { IsStrictlySortedBy (slice_cmp nat_cmp) (map record_bytes operations.now) }
     ensures bound { IsSearchInRange result (length operations.now) }
@@ -81,7 +81,7 @@ pub(crate) fn search(operations: &[Operation], operation: &Operation) -> Result<
     operations.binary_search_by(|held| held.compare(operation))
 }
 
-// The same, with the end tried first: operations that come in ascending order are not searched for.
+// The same, with the end tried first: no search is needed for operations in ascending order.
 fn search_from_end(operations: &[Operation], operation: &Operation) -> Result<usize, usize>
     requires { IsStrictlySortedBy (slice_cmp nat_cmp) (map record_bytes operations.now) }
     ensures bound { IsSearchInRange result (length operations.now) }
@@ -95,7 +95,7 @@ fn search_from_end(operations: &[Operation], operation: &Operation) -> Result<us
     search(operations, operation)
 }
 
-// Sorts operations by their records. Runs that ascend are merged, where there is memory for it.
+// Sorts operations by their records. Ascending runs are merged, if there is memory for it.
 fn sort(operations: &mut Vec<Operation, Heap>)
     ensures permutation { IsPermutation operations.old.items operations.new.items }
     ensures sorted { IsSortedBy (λ x y. is_lt (slice_cmp nat_cmp (record_bytes x)
@@ -115,13 +115,13 @@ pub(crate) fn order(operations: &mut Vec<Operation, Heap>)
 }
 
 impl PlainArchive {
-    /// The heap that the archive keeps.
+    /// The heap of the archive.
     pub fn heap(&self) -> &Heap {
         self.operations.allocator()
     }
 
-    /// Builds the tables of addresses beside the slices that have none. Nothing that is asked depends on them. Refused
-    /// for want of memory alone.
+    /// Builds tables of addresses for the slices that have none. No other result depends on them. Fails only if memory
+    /// runs out.
     pub fn keep_tables(&mut self) -> Result<(), NoMemory>
         ensures { self.new ≡ self.old }
     {
@@ -129,7 +129,7 @@ impl PlainArchive {
         keep_each_table(&mut self.operations, &heap)
     }
 
-    /// Whether a lookup of the key may tell digests: where two of its slices are of one kind, as of three some two are.
+    /// Whether a lookup of the key may return digests: if two of its slices are of one kind, which holds for any three.
     pub fn may_answer_digests(&self, key: &SliceKey) -> bool {
         let count = self.operations.len();
         if count > 1
@@ -146,7 +146,7 @@ impl PlainArchive {
         }
     }
 
-    /// Keeps the digests of the slices under a key, where a lookup of the key may tell them.
+    /// Keeps the digests of the slices with a key, if a lookup of the key may return them.
     pub fn keep_digests(&mut self, key: &SliceKey)
         ensures { self.new ≡ self.old }
     {
@@ -176,8 +176,7 @@ impl PlainArchive {
         Ok(keys)
     }
 
-    /// Keeps the digest of the slice that an operation admits, where a retirement of its key stands: taking it asks for
-    /// that.
+    /// Keeps the digest of an operation's slice if there is a retirement with its key: adding the slice needs it.
     pub fn keep_asked(&self, operation: &mut Operation)
         ensures { operation.new ≡ operation.old }
     {
@@ -192,8 +191,8 @@ impl PlainArchive {
         BorrowedOperations::of(&self.operations)
     }
 
-    /// Whether an operation is there, or admits a slice that a retirement covers: taking it would change nothing. A
-    /// slice is hashed only where a retirement of its key stands.
+    /// Whether an operation is present, or admits a slice that a retirement covers, so that adding it would change
+    /// nothing. A slice is hashed only if there is a retirement with its key.
     pub fn knows(&self, operation: &Operation) -> bool
         ensures changes { changes self.now (record_bytes operation.now) ≡ not result }
         ensures same { result ≡ true → with_record self.now (record_bytes operation.now) ≡ self.now }
@@ -201,7 +200,7 @@ impl PlainArchive {
         self.lend().knows(operation, &mut 0)
     }
 
-    // Whether the archive knows each of the operations: it is there, or covered.
+    // Whether the archive knows each of the operations: it is present, or covered.
     fn knows_each(&self, operations: &[Operation]) -> bool
         ensures knows { result
             ≡ list_all (λ operation. set.contains self.now (record_bytes operation) || is_covered self.now
@@ -224,7 +223,8 @@ impl PlainArchive {
         &self.operations
     }
 
-    /// Takes an admission, and gives its index among the operations, or none where it changes nothing.
+    /// Adds an admission, and returns its index among the operations, or none if it changes nothing. Fails only if
+    /// memory runs out.
     pub fn admit_at(&mut self, mut slice: Slice) -> Result<Option<usize>, NoMemory>
         ensures taken { OnOk result (self.new ≡ with_record self.old (admission_record slice)) }
         ensures place { IfOk result (λ index. IsPutAt self.old self.new (admission_record slice) index) }
@@ -246,7 +246,7 @@ impl PlainArchive {
         }
     }
 
-    // Takes an admission.
+    // Adds an admission.
     fn admit(&mut self, slice: Slice) -> Result<bool, NoMemory>
         ensures taken { OnOk result (self.new ≡ with_record self.old (record_bytes (Admit slice))) }
         ensures answer { IfOk result (λ changed. changed ≡ changes self.old (record_bytes (Admit slice))) }
@@ -255,7 +255,7 @@ impl PlainArchive {
         Ok(self.admit_at(slice)?.is_some())
     }
 
-    // Takes a retirement. What it covers is dropped after it, which is not refused.
+    // Adds a retirement. The slices that it covers are dropped afterwards, which cannot fail.
     fn retire(&mut self, key: SliceKey, digest: Digest) -> Result<bool, NoMemory>
         ensures taken { OnOk result (self.new ≡ with_record self.old (record_bytes (Retire key digest))) }
         ensures answer { IfOk result (λ changed. changed ≡ changes self.old (record_bytes (Retire key digest))) }
@@ -285,7 +285,7 @@ impl PlainArchive {
         Ok(())
     }
 
-    // The slice that an operation admits, where it is under the key, and a companion or not. What is held is live.
+    // The slice of an operation, if it has the key, and is a companion or not. Each slice that is held is live.
     #[tactic(auto, unfolding(crate::specs::InnerScan::is_held_kind))]
     fn held<'a>(operation: &'a Operation, key: &SliceKey, dsym: bool) -> Option<AskedSlice<'a>>
         ensures { result ≡ held_in key.now dsym operation.now }
@@ -299,7 +299,7 @@ impl PlainArchive {
         Some(AskedSlice::of(slice))
     }
 
-    // The live slices of a key, companions or not, as far as one of them is asked alone.
+    // The live slices of a key, companions or not, counted; the only one is kept.
     fn answering<'a>(operations: &'a [Operation], key: &SliceKey, dsym: bool) -> Answering<'a>
         ensures { IsAnsweringOf result (held_among key.now dsym operations.now) }
     {
@@ -331,7 +331,7 @@ impl PlainArchive {
         Ok(slices)
     }
 
-    // What each of the live slices of a key, companions or not, tells of a place.
+    // The answer for an address of each of the live slices of a key, companions or not.
     fn own_rows<'a>(
         &self,
         operations: &'a [Operation],
@@ -351,7 +351,7 @@ impl PlainArchive {
         Ok(rows)
     }
 
-    // What the live slices of a key, companions or not, tell together, where so much is kept of them.
+    // The answer of the live slices of a key, companions or not, together, from their count.
     fn answer_of<'a>(
         &self,
         operations: &'a [Operation],
@@ -374,7 +374,7 @@ impl PlainArchive {
         }
     }
 
-    // The rows of a name in what an operation admits. A slice without the name is not hashed.
+    // The rows of a name in the slice of an operation. A slice without the name is not hashed.
     fn names_of<'a>(
         &self,
         operation: &'a Operation,
@@ -392,7 +392,7 @@ impl PlainArchive {
         rows_in(heap, slice, name)
     }
 
-    // The rows of a name in operations, as they come.
+    // The rows of a name in operations, in their order.
     fn gather_names<'a>(
         &self,
         operations: &'a [Operation],
@@ -426,7 +426,7 @@ impl PlainArchive {
         Ok(missing)
     }
 
-    // Takes operations one after another.
+    // Adds operations one after another.
     fn take_in_turn(&mut self, operations: Vec<Operation, Heap>) -> Result<(), NoMemory>
         requires { IsContent self.now }
         ensures { Takes self.old self.new (map record_bytes operations.items) result }
@@ -437,8 +437,8 @@ impl PlainArchive {
         Ok(())
     }
 
-    // Takes over the operations of another archive, together. Room is made for them first, which alone may be refused:
-    // what they cover is dropped only where they come in.
+    // Moves the operations of another archive into this one, together. Memory is reserved for them first, and only this
+    // may fail: the slices that they cover are dropped only when they are added.
     fn merge(&mut self, other: PlainArchive) -> Result<(), NoMemory>
         ensures merged { OnOk result (self.new ≡ joined self.old other) }
         ensures refused { OnErr result (self.new ≡ self.old) }

@@ -1,4 +1,4 @@
-//! The operations of one kind under one key, or under one UUID.
+//! The operations of one kind with one key, or with one UUID.
 ghost use Rattle.std.specs.Prelude.{◌≡◌, ◌+◌, ◌≤◌, [], true, false, map, filter, length, take, drop};
 ghost use Rattle.std.specs.Ordering.{nat_cmp};
 ghost use Rattle.std.specs.Cmp.Lexicographic.{slice_cmp};
@@ -17,25 +17,25 @@ use memory::{Heap, NoMemory};
 use std::cmp::Ordering;
 use uuid::Uuid;
 
-// What an operation is. Retirements stand before admissions.
+// The kind of an operation. Retirements precede admissions.
 #[derive(Clone, Copy)]
 pub(crate) enum RecordKind {
     Retirement,
     Admission,
 }
 
-// Which keys are meant: one, or those of a UUID.
+// One key, or all keys with a UUID.
 #[derive(Clone, Copy)]
 pub(crate) enum Scope {
     OfKey(SliceKey),
     OfUuid(Uuid),
 }
 
-// So many places are looked at, one after another, before the whole is halved.
+// This number of indexes is tried, one after another, before a binary search.
 const STEPS: usize = 4;
 
-// Where the operations of a kind within a scope begin, and how many they are. They stand together. Where they would
-// stand after all there is, that is seen at once, and else they are found by halving.
+// The index of the first operation of a kind within a scope, and their number. They are adjacent. If they would be
+// after all operations, that is found at once, otherwise by binary search.
 pub(crate) fn range_of(operations: &[Operation], kind: RecordKind, scope: Scope) -> (usize, usize)
     requires ascending { IsStrictlySortedBy (slice_cmp nat_cmp) (map record_bytes operations.now) }
     requires are { AllByRecursion IsOperation operations.now }
@@ -63,7 +63,7 @@ fn within(operations: &[Operation], kind: RecordKind, scope: Scope) -> &[Operati
     within
 }
 
-// The operations of a kind under a key.
+// The operations of a kind with a key.
 pub(crate) fn under<'a>(
     operations: &'a [Operation],
     kind: RecordKind,
@@ -76,8 +76,8 @@ pub(crate) fn under<'a>(
     within(operations, kind, Scope::OfKey(key))
 }
 
-// Whether the retirements within a scope would go in at a place: what stands before it is below them, and what stands
-// from it on is above. Then none of them is there.
+// Whether the retirements within a scope would be inserted at this index: the operation before it is below them, and
+// the one at it is above. Then none of them is present.
 fn is_gap(operations: &[Operation], asked: usize, scope: &Scope) -> bool
     requires { IsHeld operations.now }
     ensures { result ≡ true → filter (is_within Retirement scope.now) operations.now ≡ [] }
@@ -96,8 +96,8 @@ fn is_gap(operations: &[Operation], asked: usize, scope: &Scope) -> bool
     true
 }
 
-// Whether retirements of a key are there. They are looked for from the place on where those of another key were, so
-// that keys that ascend are found with few comparisons, and else by halving.
+// Whether there are retirements with a key. The search begins at the index of those of another key, so that few
+// comparisons are needed for ascending keys, and is a binary search after a few steps.
 pub(crate) fn has_retirement(operations: &[Operation], near: &mut usize, key: SliceKey) -> bool
     requires { IsHeld operations.now }
     ensures none { result ≡ false → filter (is_under_key Retirement key) operations.now ≡ [] }
@@ -118,7 +118,7 @@ pub(crate) fn has_retirement(operations: &[Operation], near: &mut usize, key: Sl
     !is_gap(operations, *near, &scope)
 }
 
-// The operations of a kind under a UUID, whatever the architecture.
+// The operations of a kind with a UUID, for all architectures.
 pub(crate) fn under_uuid(operations: &[Operation], kind: RecordKind, uuid: Uuid) -> &[Operation]
     requires { IsHeld operations.now }
     ensures { result.now ≡ filter (is_under_uuid kind uuid) operations.now }
@@ -126,7 +126,7 @@ pub(crate) fn under_uuid(operations: &[Operation], kind: RecordKind, uuid: Uuid)
     within(operations, kind, Scope::OfUuid(uuid))
 }
 
-// Keeps the digests of the slices under a key.
+// Keeps the digests of the slices with a key.
 pub(crate) fn keep_digests_under(operations: &mut [Operation], key: SliceKey)
     requires ascending { IsStrictlySortedBy (slice_cmp nat_cmp) (map record_bytes operations.old) }
     requires are { AllByRecursion IsOperation operations.old }
@@ -147,7 +147,7 @@ fn keep_each_digest(operations: &mut [Operation])
     }
 }
 
-// Builds the tables of the slices that operations admit, where they have none.
+// Builds the tables of the slices that operations admit, if they have none. Fails only if memory runs out.
 pub(crate) fn keep_each_table(operations: &mut [Operation], heap: &Heap) -> Result<(), NoMemory>
     ensures { operations.new ≡ operations.old }
 {
@@ -157,7 +157,7 @@ pub(crate) fn keep_each_table(operations: &mut [Operation], heap: &Heap) -> Resu
     Ok(())
 }
 
-// Whether an operation admits a companion. No answer depends on it.
+// Whether an operation admits a companion. No result depends on it.
 pub(crate) fn is_companion(operation: &Operation) -> bool {
     match operation {
         Operation::Admit(slice) => is_kind(true, slice),

@@ -1,4 +1,4 @@
-//! Taking many operations.
+//! Adds many operations to an archive.
 ghost use Rattle.std.specs.Prelude.{◌≡◌, true, not, map, IfOk, OnOk};
 ghost use Rattle.std.specs.List.{list_all};
 ghost use Rattle.archive_core.specs.Record.{record_bytes};
@@ -6,7 +6,7 @@ ghost use Rattle.archive_core.specs.Content.{IsContent, is_admission};
 ghost use Rattle.archive_index.specs.InTurn.{AreSortedWithSameEffect};
 ghost use Rattle.archive_index.specs.Taking.{Takes, TakesEach};
 
-use crate::parting::{Parts, parts_of};
+use crate::parting::{Parts, by_kind};
 use crate::plain::order;
 use archive_core::{Archive, Operation};
 use memory::{Heap, NoMemory};
@@ -35,7 +35,7 @@ fn are_retirements(operations: &[Operation]) -> bool
     operations.iter().all(|operation| !is_admission(operation))
 }
 
-// Takes operations one after another, in their order, and counts those that were new.
+// Adds operations one after another, in their order, and counts the new ones.
 fn take_in_turn<A: Archive>(
     archive: &mut A,
     operations: Vec<Operation, Heap>,
@@ -53,8 +53,7 @@ fn take_in_turn<A: Archive>(
     Ok(new)
 }
 
-// Takes operations that come in any order. They are sorted once and taken in together, so that none of them shifts what
-// is there.
+// Adds operations in any order. They are sorted once and added together, so that none of them shifts the others.
 fn take_sorted<A: Archive + Drop>(
     archive: &mut A,
     mut operations: Vec<Operation, Heap>,
@@ -69,7 +68,7 @@ fn take_sorted<A: Archive + Drop>(
     Ok(())
 }
 
-// Takes admissions. None of them drops another, so as many are new as there are more afterwards.
+// Adds admissions. None of them drops another, so the number of new ones is the growth of the archive.
 fn take_admissions<A: Archive + Drop>(
     archive: &mut A,
     operations: Vec<Operation, Heap>,
@@ -82,7 +81,7 @@ fn take_admissions<A: Archive + Drop>(
     Ok(archive.len() - before)
 }
 
-// Takes retirements. None of them is dropped, so those are new that are not held, each once.
+// Adds retirements. None of them is dropped, so the new ones are those that are not held, each once.
 fn take_retirements<A: Archive + Drop>(
     archive: &mut A,
     mut operations: Vec<Operation, Heap>,
@@ -98,30 +97,29 @@ fn take_retirements<A: Archive + Drop>(
     Ok(new)
 }
 
-// Takes operations of both kinds: the admissions that no retirement before them covers, then the retirements. A slice
-// that is retired after its admission is dropped by the latter.
-fn take_parts<A: Archive + Drop>(
+// Adds operations of both kinds: the admissions that no retirement before them covers, then the retirements. A slice
+// that is retired after its admission is dropped by the retirement.
+fn take_by_kind<A: Archive + Drop>(
     archive: &mut A,
     operations: Vec<Operation, Heap>,
 ) -> Result<u64, NoMemory>
     ensures { TakesEach (A.content archive.old) (A.content archive.new) (map record_bytes operations.items) result }
 {
     let _before = archive.len();
-    let parts = parts_of(operations)?;
+    let parts = by_kind(operations)?;
     let admitted = take_admissions(archive, parts.admissions)?;
     let retired = take_retirements(archive, parts.retirements)?;
     Ok(admitted + retired)
 }
 
-/// Takes operations in their order, and answers how many of them were new: each that changed what those before it left.
-/// One that stands twice is new once; a slice that comes before its retirement is new, and one after it is not.
-/// The admissions are sorted once and taken in together, and after them the retirements, so that none of them shifts
-/// what is there.
+/// Adds operations in their order, and returns the number of new ones: each that changed the content after those before
+/// it. A repeated operation is new once; a slice before its retirement is new, and one after it is not. The admissions
+/// are sorted once and added together, and after them the retirements, so that none of them shifts the others.
 ///
-/// Refused for want of memory alone. Some of the operations may then have been taken, and the list is dropped. The call
-/// may be made again with all of them, which the caller reads once more from where it had them, as from their file, or
-/// has kept as copies (`Operation::copy`): `taking_each_resumed` of `laws_archive` says that it gives what this one
-/// would have given.
+/// Fails only if memory runs out. Some of the operations may then have been added, and the list is dropped. The call
+/// may be repeated with all of them, which the caller reads again from their source, for example their file, or has
+/// kept as copies (`Operation::copy`): `taking_each_resumed` of `laws_archive` says that the result is then that of a
+/// first call without a failure.
 pub fn take_each<A: Archive + Drop>(
     archive: &mut A,
     operations: Vec<Operation, Heap>,
@@ -134,14 +132,14 @@ pub fn take_each<A: Archive + Drop>(
     if are_retirements(&operations) {
         return take_retirements(archive, operations);
     }
-    take_parts(archive, operations)
+    take_by_kind(archive, operations)
 }
 
-/// Those operations of a list that are new in their turn, whatever it comes to, in the order of their records, each
-/// once: its retirements, and the slices that do not come after theirs. A slice may stand beside a retirement that
-/// comes after it and covers it.
+/// The operations of a list that are new at their position for any content, in the order of their records, each once:
+/// its retirements, and the slices that do not follow theirs. The result may have both a slice and a retirement that
+/// follows and covers it.
 ///
-/// Refused for want of memory alone.
+/// Fails only if memory runs out.
 pub fn sort_with_same_effect(
     operations: Vec<Operation, Heap>,
 ) -> Result<Vec<Operation, Heap>, NoMemory>
@@ -150,7 +148,7 @@ pub fn sort_with_same_effect(
     let Parts {
         mut admissions,
         mut retirements,
-    } = parts_of(operations)?;
+    } = by_kind(operations)?;
     admissions.append(&mut retirements)?;
     order(&mut admissions);
     Ok(admissions)

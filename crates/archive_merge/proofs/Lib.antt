@@ -7,9 +7,9 @@ pub mod Places
 pub mod Orders
 pub mod Unread
 pub mod Merges
-pub mod Tells
+pub mod ArrivalTurns
 pub mod Shares
 pub mod BorrowedSides
-pub mod Tellings
+pub mod ArrivalsAtEnd
 pub mod Lost
 pub mod Rises

@@ -19,7 +19,7 @@ use Rattle.archive_records.specs.Text.{end_record, text_of, last_of, kept}
 use Rattle.archive_records.specs.Reader.{HasRead, set_of}
 use Rattle.archive_records.specs.Front.{front_length}
 use Rattle.archive_records.specs.declared.fault.MergeFault.{MergeFault}
-use Rattle.archive_merge.specs.MergeSteps.{TellsBy, DecidesCovered, Stands, Merging, WriteStopped, IsFull}
+use Rattle.archive_merge.specs.MergeSteps.{DecidesCoveredBy, DecidesCovered, Stands, Merging, WriteStopped, IsFull}
 use Rattle.archive_merge.specs.MergeSteps.{HasStoppedMerge, IsBeforeTurn, first_by, first_of, IsRefusedMore, after_turn}
 use Rattle.archive_merge.specs.MergeSteps.{left_after, memory_after, next_record, next_record_by, right_after}
 use Rattle.archive_merge.specs.MergeSteps.{unread_of, Both}
@@ -128,7 +128,7 @@ module _ (a1 b1 a2 b2 w0 w1 : Option (List ℕ)) (m : Sides) (p : Merging a1 b1 
       }
 
   -- whether a retirement of either side covers it
-  covered_by_turn : (b : Bool) (o : Ordering) → first_of m.left m.right ≡ o → TellsBy o m.left m.right b
+  covered_by_turn : (b : Bool) (o : Ordering) → first_of m.left m.right ≡ o → DecidesCoveredBy o m.left m.right b
       → is_covered (set_of (p.out ++ next_record_by o m ∷ [])) (next_record_by o m) ≡ b
   covered_by_turn b Less first told =
       let x = m.left.reader.last in

@@ -21,7 +21,7 @@ use Rattle.archive_merge.specs.declared.arrivals.Arrival.{Arrival}
 use Rattle.archive_merge.specs.declared.merging.Merge.{Merge}
 use Rattle.archive_merge.specs.Sides.{Sides, side_with, sides_of}
 use Rattle.archive_merge.specs.MergeSteps.{Merging, Stands, first_of}
-use Rattle.archive_merge.specs.ArrivalSteps.{Telling}
+use Rattle.archive_merge.specs.ArrivalSteps.{MergingWithArrivals}
 use Rattle.archive_merge.proofs.Covered.{retired_of}
 use Rattle.archive_merge.proofs.MergeSteps.{first_equal}
 use Rattle.archive_merge.proofs.Starts.{with_both}
@@ -174,9 +174,9 @@ module _ {B : Type 0} (seen : B → MergeInput) (m : Merge B) (r : List ℕ) (mo
     merging_shared p = subst (Merging a1 b1 a2 b2 w0 w1) sides_are (merging_seen p)
 
     pub telling_shared : (told : List Arrival) (withdraws : Bool)
-        → Telling a1 b1 a2 b2 w0 w1 (sides_of seen m) told withdraws
-        → Telling a1 b1 a2 b2 w0 w1 (sides_of seen after) told withdraws
+        → MergingWithArrivals a1 b1 a2 b2 w0 w1 (sides_of seen m) told withdraws
+        → MergingWithArrivals a1 b1 a2 b2 w0 w1 (sides_of seen after) told withdraws
     telling_shared told withdraws t =
-        let now : Telling a1 b1 a2 b2 w0 w1 shares told withdraws =
+        let now : MergingWithArrivals a1 b1 a2 b2 w0 w1 shares told withdraws =
         record { merging = merging_seen t.merging; arrivals_are = t.arrivals_are; withdraws_is = t.withdraws_is } in
-        subst (λ (s : Sides). Telling a1 b1 a2 b2 w0 w1 s told withdraws) sides_are now
+        subst (λ (s : Sides). MergingWithArrivals a1 b1 a2 b2 w0 w1 s told withdraws) sides_are now

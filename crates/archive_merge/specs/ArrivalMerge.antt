@@ -1,5 +1,5 @@
 -- A merge that reports the effect of each record of its right side on the left one, and whether the right one retires a
--- slice that is there.
+-- slice of the left one.
 use Rattle.std.specs.Prelude.{◌≡◌, ℕ, List, Bool, map, IfSome, ◌⊎◌}
 use Rattle.std.specs.List.{list_any}
 use Rattle.join_core.specs.Listing.{listing}
@@ -11,15 +11,14 @@ use Rattle.archive_merge.specs.declared.arrivals.Arrival.{Arrival}
 use Rattle.archive_merge.specs.Merging.{IsMerged}
 use Rattle.archive_merge.specs.Arrivals.{arrival_of}
 
--- The text is an archive's, of one version or the other, and these are its operations. In version 1 slices may be among
--- them that are covered.
+-- The text is an archive's, of either version, and these are its operations. In version 1 some of them may be covered.
 pub record HasOperations (operations : Operations) (text : List ℕ) : Type 0 where
   pub are : AreOperations operations
   pub whole : (IsMade operations × (text ≡ written operations)) ⊎ (text ≡ old_written operations)
 
--- Both inputs are texts of archives, and the text of their join was written; of each operation of the right text, in
--- the order of its records, it was told what it is to the content of the left one, and whether one of them retires a
--- slice that is there.
+-- Both inputs are texts of archives, and the text of their join was written. For each operation of the right text, in
+-- the order of its records, its effect on the content of the left one was reported, and whether one of them retires a
+-- slice of the left one.
 pub record IsMergedWithArrivals {R S W : Type 0} (left : Stream R) (right : Stream S) (out : Stream W) (sizes : Sizes)
     (arrivals : List Arrival) (withdraws : Bool) : Type 0 where
   pub merged : IsMerged left right out sizes

@@ -1,4 +1,4 @@
--- Operations in memory, read as the text that they would be: the words of the inner functions.
+-- Operations in memory, read as if they were a text: the terms of `BorrowedText`, and of the inner functions.
 use Rattle.std.specs.Prelude.{◌≡◌, ◌≢◌, ℕ, ◌+◌, List, [], ◌++◌, length, map, Option, Some, None, Result, Ok, Err}
 use Rattle.std.specs.List.{concat}
 use Rattle.std.specs.Io.KnownBytes.{IsAtEnd}
@@ -18,13 +18,13 @@ use Rattle.archive_merge.specs.declared.side.Lookahead.{Lookahead}
 use Rattle.archive_merge.specs.declared.side.Lookahead.TheVariants.{Unread, Held, Ended}
 use Rattle.archive_merge.specs.declared.side.MergeInput.{MergeInput}
 
--- what is left of a text of which so much was taken, by what stands after what was
+-- the rest of a text after this part, with the bytes after its records
 abbrev pub left_by : Part → List ℕ → List ℕ
 left_by Nothing behind = old_magic ++ behind
 left_by Records behind = behind
 left_by All behind = []
 
--- what is left of a text
+-- the rest of a text
 abbrev pub left_of : BorrowedText → List ℕ
 left_of text = left_by text.taken
     (concat (map record_bytes text.rest.now) ++ end_record (text.count + length text.rest.now))
@@ -34,7 +34,7 @@ abbrev pub last_bytes : Option Record → List ℕ
 last_bytes None = []
 last_bytes (Some item) = borrowed_bytes item
 
--- where a side stands, as one that reads the text
+-- the state of a side, as that of one that reads the text
 abbrev pub seen_of : BorrowedSide → MergeInput
 seen_of side = record {
   reader = record {
@@ -48,13 +48,13 @@ seen_of side = record {
   ahead = side.ahead;
 }
 
--- what came of one step, by what is known of the next record then
+-- the result of one step, by the state of the next record
 abbrev pub StepsBy : Option (List ℕ) → Option (List ℕ) → Position → Position → Lookahead → Type 0
 StepsBy a b before after Unread = ⊥
 StepsBy a b before after Held = Passes a b before after
 StepsBy a b before after Ended = Finishes a b before after × IsAtEnd b
 
--- what came of one step: one record more, the end of the text, or why the side stops
+-- the result of one step: one more record, the end of the text, or the fault
 abbrev pub AdvancesTo : {T : Type 0} → Option (List ℕ) → Option (List ℕ) → Position → Position → Lookahead
     → Result T RecordFault → Type 0
 AdvancesTo a b before after ahead (Ok done) = StepsBy a b before after ahead

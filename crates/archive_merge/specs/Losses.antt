@@ -13,8 +13,8 @@ use Rattle.archive_records.specs.Text.{AreOperations}
 use Rattle.archive_merge.specs.Merging.{ForTexts, IsRefusedAlone, IsUnfailed, LeftStops, RightStops}
 use Rattle.archive_merge.specs.ArrivalMerge.{HasOperations}
 
--- Both inputs are texts of archives, and of the operations of the old one so many are lost in the new one, which
--- neither has them nor covers them.
+-- Both inputs are texts of archives, and this number of operations of the old one are lost in the new one, which
+-- neither has nor covers them.
 pub record Loses {R S : Type 0} (new : Stream R) (old : Stream S) (lost : ℕ) : Type 0 where
   pub content : Operations
   pub operations : Operations
@@ -24,21 +24,21 @@ pub record Loses {R S : Type 0} (new : Stream R) (old : Stream S) (lost : ℕ) :
   pub old_has : IfSome (old.bytes old.old) (HasOperations operations)
   pub lost_is : lost ≡ count_by (changes content) (listing operations)
 
--- The new archive is refused: reading it whole, and it alone, is refused so. Unless its device failed or memory was
--- wanted, it is the one that stops a merge of both.
+-- The new archive is refused: reading it whole and alone is refused with this fault. If the fault is in its text, it is
+-- the side that stops a merge of both.
 pub record IsNewRefused {R S : Type 0} (new : Stream R) (old : Stream S) (fault : RecordFault) : Type 0 where
   pub refused : IsRefusedAlone new fault
   pub old_unfailed : IsUnfailed old
   pub stops : IsOfText fault.kind → ForTexts new old LeftStops
 
--- The old one is.
+-- The old archive is refused, in the same way.
 pub record IsOldRefused {R S : Type 0} (new : Stream R) (old : Stream S) (fault : RecordFault) : Type 0 where
   pub refused : IsRefusedAlone old fault
   pub new_unfailed : IsUnfailed new
   pub stops : IsOfText fault.kind → ForTexts new old RightStops
 
--- why two archives are not compared: the left one, which is the new one, is refused, or the right one; and nothing is
--- written that could fail
+-- why two archives are not compared: the left one, which is the new one, is refused, or the right one; nothing is
+-- written, so no write fails
 abbrev pub IsNotCompared : {R S : Type 0} → Stream R → Stream S → MergeCause → Type 0
 IsNotCompared new old (Left fault) = IsNewRefused new old fault
 IsNotCompared new old (Right fault) = IsOldRefused new old fault

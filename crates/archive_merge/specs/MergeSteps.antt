@@ -1,5 +1,5 @@
--- A merge, turn by turn: the words of the inner functions, and of the traits of its right side. No contract of another
--- public one has them.
+-- A merge, step by step: the terms of the inner functions, and of the traits of its right side. No contract of another
+-- public function has them.
 use Rattle.std.specs.Prelude.{◌≡◌, ◌≢◌, ℕ, ◌+◌, ◌-◌, ◌*◌, ◌^◌, ◌<◌, ◌≤◌, true, List, [], ◌∷◌}
 use Rattle.std.specs.Prelude.{◌++◌, ◌||◌, length, take, Bool, false, Option, Result, Ok, Err, MatchResult, ◌⊎◌}
 use Rattle.std.specs.declared.cmp.Ordering.{Ordering}
@@ -33,8 +33,8 @@ use Rattle.archive_records.specs.Reader.{set_of, HasRead, HasReadAll, Stopped, S
 
 -- ---- one side
 
--- It is an archive's. Of its records these had their turn, and the last of all that had is low: the next one is to be
--- read; or it was, and is above low; or the text was read to its end.
+-- The side is an archive. These of its records were processed, and low is the last record of both sides that was: the
+-- next one is not read yet; or it was read, and is above low; or the text was read to its end.
 pub record Stands (a b : Option (List ℕ)) (done : List (List ℕ)) (low : List ℕ) (side : MergeInput) : Type 0 where
   pub archive : kind_of side.reader.file ≡ Archive_text
   pub unread : side.ahead ≡ Unread → HasRead side.reader.file a b done side.reader × (last_of [] done ≡ low)
@@ -49,7 +49,7 @@ pub record StopsBeforeRecords (a b : Option (List ℕ)) (fault : RecordFault) : 
   pub stops : StopsInMagicOf Archive_text bytes fault.kind
   pub start : fault.offset ≡ 0
 
--- the magic of an archive was read, of one version or the other
+-- the magic of an archive, of either version, was read
 abbrev pub HasMagicRead : Option (List ℕ) → Option (List ℕ) → Type 0
 HasMagicRead a b = (format : Format) × (kind_of format ≡ Archive_text) × Consumes a b (magic_of format)
 
@@ -58,11 +58,11 @@ cost Unread = 1
 cost Held = 2
 cost Ended = 0
 
--- how much there may still be to do
+-- an upper bound for the remaining steps
 abbrev pub weight : MergeInput → ℕ
 weight side = (2 ^ 63 - side.reader.count) * 2 + cost side.ahead
 
--- ---- which is next
+-- ---- the next record
 
 abbrev pub first_by : Lookahead → Lookahead → Ordering → Ordering
 first_by Held Held o = o
@@ -71,11 +71,11 @@ first_by Held Unread o = Less
 first_by Ended s o = Greater
 first_by Unread s o = Greater
 
--- which side's record is the next to be written
+-- the side with the next record to be written
 abbrev pub first_of : MergeInput → MergeInput → Ordering
 first_of left right = first_by left.ahead right.ahead (slice_cmp nat_cmp left.reader.last right.reader.last)
 
--- the record that is next
+-- the next record
 abbrev pub next_record_by : Ordering → Sides → List ℕ
 next_record_by Less m = m.left.reader.last
 next_record_by Equal m = m.left.reader.last
@@ -84,11 +84,11 @@ next_record_by Greater m = m.right.reader.last
 abbrev pub next_record : Sides → List ℕ
 next_record m = next_record_by (first_of m.left m.right) m
 
--- a side whose last record had its turn
+-- a side whose last record was processed
 abbrev pub unread_of : MergeInput → MergeInput
 unread_of s = record { reader = s.reader; ahead = Unread }
 
--- each side after the turn of the record that is next, which is the left one's, both sides', or the right one's
+-- each side after the next record was processed: that of the left side, of both sides, or of the right side
 abbrev pub left_after : Ordering → MergeInput → MergeInput
 left_after Less s = unread_of s
 left_after Equal s = unread_of s
@@ -99,7 +99,7 @@ right_after Less s = s
 right_after Equal s = unread_of s
 right_after Greater s = unread_of s
 
--- both sides once the record that is next had its turn, where so much was written
+-- both sides after the next record was processed, with these sizes written
 abbrev pub after_turn : Sides → Sizes → Sides
 after_turn m written = record {
   left = left_after (first_of m.left m.right) m.left;
@@ -107,17 +107,17 @@ after_turn m written = record {
   written = written;
 }
 
--- whether the record that is next was dropped by a side that has it, or a retirement of the other side covers it
-abbrev pub TellsBy : Ordering → MergeInput → MergeInput → Bool → Type 0
-TellsBy Less left right b = IsRecord left.reader.last
+-- whether a side that has the next record dropped it, or a retirement of the other side covers it
+abbrev pub DecidesCoveredBy : Ordering → MergeInput → MergeInput → Bool → Type 0
+DecidesCoveredBy Less left right b = IsRecord left.reader.last
     → b ≡ (left.reader.dropped || is_covered (set_of right.reader.retired) left.reader.last)
-TellsBy Equal left right b = b ≡ (left.reader.dropped || right.reader.dropped)
-TellsBy Greater left right b = IsRecord right.reader.last
+DecidesCoveredBy Equal left right b = b ≡ (left.reader.dropped || right.reader.dropped)
+DecidesCoveredBy Greater left right b = IsRecord right.reader.last
     → b ≡ (right.reader.dropped || is_covered (set_of left.reader.retired) right.reader.last)
 
--- the same of two sides
+-- the same for two sides
 abbrev pub DecidesCovered : MergeInput → MergeInput → Bool → Type 0
-DecidesCovered left right b = TellsBy (first_of left right) left right b
+DecidesCovered left right b = DecidesCoveredBy (first_of left right) left right b
 
 -- ---- both sides
 
@@ -128,8 +128,8 @@ pub record Joins (out lefts rights : List (List ℕ)) : Type 0 where
   pub left : (r : List ℕ) → Contains lefts r → Contains out r
   pub right : (r : List ℕ) → Contains rights r → Contains out r
 
--- What was read of both, but for what is held, which is above it, ascends as `out`. Where the left side is to be read
--- on and the right one was, the right one's last record is not the last of both.
+-- The records that both sides read, without the held ones, which are above them, ascend as `out`. If the left side is
+-- to be read on and the right side is not, the right side's last record is not the last of both.
 pub record Both (a1 b1 a2 b2 : Option (List ℕ)) (left_side right_side : MergeInput) (out : List (List ℕ))
     : Type 0 where
   pub lefts : List (List ℕ)
@@ -140,7 +140,7 @@ pub record Both (a1 b1 a2 b2 : Option (List ℕ)) (left_side right_side : MergeI
       → may_follow Archive (last_of [] rights) (last_of [] out) ≡ true
   pub joins : Joins out lefts rights
 
--- What was read of both was written but for what is covered in it.
+-- The records that both sides read were written, without those that are covered among them.
 pub record Merging (a1 b1 a2 b2 w0 w1 : Option (List ℕ)) (m : Sides) : Type 0 where
   pub out : List (List ℕ)
   pub both : Both a1 b1 a2 b2 m.left m.right out
@@ -148,7 +148,7 @@ pub record Merging (a1 b1 a2 b2 w0 w1 : Option (List ℕ)) (m : Sides) : Type 0 
   pub bytes : m.written.bytes ≡ 8 + length (concat (kept out))
   pub gained : Appends w0 w1 (magic ++ concat (kept out))
 
--- The left side, which was to be read on, stopped the merge that stood so.
+-- The left side, which was to be read on, stopped the merge in this state.
 pub record LeftStopped (a1 b1 a2 b2 w0 w1 : Option (List ℕ)) (fault : RecordFault) (written : ℕ) : Type 0 where
   pub before : Option (List ℕ)
   pub sides : Sides
@@ -157,7 +157,7 @@ pub record LeftStopped (a1 b1 a2 b2 w0 w1 : Option (List ℕ)) (fault : RecordFa
   pub left : Stopped sides.left.reader.file a1 b1 merging.both.lefts fault
   pub written_is : written ≡ sides.written.bytes
 
--- The right side did, and the left one holds a record, or was read to its end.
+-- The right side stopped it, and the left side holds a record, or was read to its end.
 pub record RightStopped (a1 b1 a2 b2 w0 w1 : Option (List ℕ)) (fault : RecordFault) (written : ℕ) : Type 0 where
   pub before : Option (List ℕ)
   pub sides : Sides
@@ -167,8 +167,8 @@ pub record RightStopped (a1 b1 a2 b2 w0 w1 : Option (List ℕ)) (fault : RecordF
   pub right : Stopped sides.right.reader.file a2 b2 merging.both.rights fault
   pub written_is : written ≡ sides.written.bytes
 
--- The writer failed inside the text of what was read of both, but for what is held and what is covered; inside its end
--- record only where both texts were read to their ends.
+-- The writer failed inside the text of the records that both sides read, without those that are held or covered; inside
+-- its end record only if both texts were read to their ends.
 pub record WriteStopped (a1 b1 a2 b2 w0 w1 : Option (List ℕ)) (written : ℕ) : Type 0 where
   pub out : List (List ℕ)
   pub left_side : MergeInput
@@ -180,7 +180,7 @@ pub record WriteStopped (a1 b1 a2 b2 w0 w1 : Option (List ℕ)) (written : ℕ) 
 
 -- ---- numbers
 
--- The numbers of a merge fit.
+-- The numbers of a merge are within their limits.
 pub record Fits (m : Sides) : Type 0 where
   pub left_archive : kind_of m.left.reader.file ≡ Archive_text
   pub right_archive : kind_of m.right.reader.file ≡ Archive_text
@@ -189,12 +189,12 @@ pub record Fits (m : Sides) : Type 0 where
   pub few : m.written.records < 2 ^ 63
   pub bytes : m.written.bytes ≤ 8 + m.written.records * 2 ^ 64
 
--- nothing is to be read
+-- no side is to be read on
 pub record IsRead (m : Sides) : Type 0 where
   pub left : m.left.ahead ≢ Unread
   pub right : m.right.ahead ≢ Unread
 
--- A record is next, whichever side has it, and the numbers fit.
+-- One of the sides has a next record, and the numbers are within their limits.
 pub record IsBeforeTurn (m : Sides) : Type 0 where
   pub fits : Fits m
   pub read : IsRead m
@@ -202,7 +202,7 @@ pub record IsBeforeTurn (m : Sides) : Type 0 where
 
 -- ---- refusals
 
--- As many records were written as there may be, and one more is next, which is not covered.
+-- The largest number of records was written, and there is a next record that is not covered.
 pub record IsFull (a1 b1 a2 b2 w0 w1 : Option (List ℕ)) (written : ℕ) : Type 0 where
   pub sides : Sides
   pub merging : Merging a1 b1 a2 b2 w0 w1 sides
@@ -211,56 +211,56 @@ pub record IsFull (a1 b1 a2 b2 w0 w1 : Option (List ℕ)) (written : ℕ) : Type
   pub most : sides.written.records ≡ most_records
   pub written_is : written ≡ sides.written.bytes
 
--- want of memory after so many bytes
+-- the fault `OutOfMemory` at this offset
 abbrev pub memory_after : ℕ → RecordFault
 memory_after offset = record { kind = OutOfMemory; offset = offset }
 
--- The left side's record is the next, and memory is wanted for it.
+-- The next record is that of the left side, and memory ran out for it.
 abbrev pub LeftFull : (a1 b1 a2 b2 w0 w1 : Option (List ℕ)) → RecordFault → ℕ → Type 0
 LeftFull a1 b1 a2 b2 w0 w1 fault written =
     (full : IsFull a1 b1 a2 b2 w0 w1 written) × (first_of full.sides.left full.sides.right ≢ Greater)
     × (fault ≡ memory_after (front_length full.merging.both.lefts))
 
--- The right side's is.
+-- The next record is that of the right side, and memory ran out for it.
 abbrev pub RightFull : (a1 b1 a2 b2 w0 w1 : Option (List ℕ)) → RecordFault → ℕ → Type 0
 RightFull a1 b1 a2 b2 w0 w1 fault written =
     (full : IsFull a1 b1 a2 b2 w0 w1 written) × (first_of full.sides.left full.sides.right ≡ Greater)
     × (fault ≡ memory_after (front_length full.merging.both.rights))
 
--- Memory was wanted at the right side's turn, for the record that the left side holds, too: it is told of the left one.
+-- Memory ran out in the right side for the record that the left side also holds: it is reported for the left one.
 abbrev pub BothWanted : (a1 b1 a2 b2 w0 w1 : Option (List ℕ)) → RecordFault → ℕ → Type 0
 BothWanted a1 b1 a2 b2 w0 w1 fault written =
     (own : RecordFault) × (s : RightStopped a1 b1 a2 b2 w0 w1 own written) × (s.sides.left.ahead ≡ Held)
     × (s.right.rest ≡ s.sides.left.reader.last) × (s.sides.left.reader.count < 2 ^ 63)
     × (fault ≡ memory_after (front_length s.merging.both.lefts))
 
--- The right side stopped the merge, and memory that it wanted was not for what the left side has: a record that it
--- holds, or its end record.
+-- The right side stopped the merge; if memory ran out, it was not for a record that the left side holds, nor for an end
+-- record.
 abbrev pub RightAlone : (a1 b1 a2 b2 w0 w1 : Option (List ℕ)) → RecordFault → ℕ → Type 0
 RightAlone a1 b1 a2 b2 w0 w1 fault written =
     (s : RightStopped a1 b1 a2 b2 w0 w1 fault written) × (fault.kind ≡ OutOfMemory
     → (s.sides.left.ahead ≡ Held → s.right.rest ≢ s.sides.left.reader.last) × ((n : ℕ) → s.right.rest ≢ end_record n))
 
--- the left side is told
+-- the fault is reported for the left side
 abbrev pub LeftRefused : (a1 b1 a2 b2 w0 w1 : Option (List ℕ)) → RecordFault → ℕ → Type 0
 LeftRefused a1 b1 a2 b2 w0 w1 fault written =
     LeftStopped a1 b1 a2 b2 w0 w1 fault written
     ⊎ LeftFull a1 b1 a2 b2 w0 w1 fault written
     ⊎ BothWanted a1 b1 a2 b2 w0 w1 fault written
 
--- the right side is
+-- the fault is reported for the right side
 abbrev pub RightRefused : (a1 b1 a2 b2 w0 w1 : Option (List ℕ)) → RecordFault → ℕ → Type 0
 RightRefused a1 b1 a2 b2 w0 w1 fault written =
     RightAlone a1 b1 a2 b2 w0 w1 fault written ⊎ RightFull a1 b1 a2 b2 w0 w1 fault written
 
--- what is said by the cause
+-- one of three predicates, by the cause
 abbrev pub ByCause : MergeCause → (RecordFault → Type 0) → (RecordFault → Type 0) → Type 0 → Type 0
 ByCause (Left fault) P Q T = P fault
 ByCause (Right fault) P Q T = Q fault
 ByCause Write P Q T = T
 
--- What a result says of the devices, of the writer by its count of failures before and after: no other failed than the
--- one that is told.
+-- The failures of the devices after a result, those of the writer by its count before and after: only the device of the
+-- reported cause may have failed.
 abbrev pub BlamesBy : {R S : Type 0} → Stream R → Stream S → ℕ → ℕ → MergeCause → Type 0
 BlamesBy left right w0 w1 (Left fault) =
     Blames left.bytes left.failures left.old left.new fault.kind × IsUnfailed right × (w1 ≡ w0)
@@ -268,19 +268,20 @@ BlamesBy left right w0 w1 (Right fault) =
     IsUnfailed left × Blames right.bytes right.failures right.old right.new fault.kind × (w1 ≡ w0)
 BlamesBy left right w0 w1 Write = IsUnfailed left × IsUnfailed right × FailedIn w0 w1
 
--- What a fault of a turn says of the writer by its count of failures: it failed, or memory was wanted, and it did not.
+-- The writer's failures after a fault of a step, by its count: it failed, or memory ran out and it did not fail.
 abbrev pub BlamesWriter : ℕ → ℕ → MergeCause → Type 0
 BlamesWriter w0 w1 (Left fault) = (fault.kind ≡ OutOfMemory) × (w1 ≡ w0)
 BlamesWriter w0 w1 (Right fault) = (fault.kind ≡ OutOfMemory) × (w1 ≡ w0)
 BlamesWriter w0 w1 Write = FailedIn w0 w1
 
--- What a fault of the left side, which is read on, says of its device.
+-- The failures of the left side's device after a fault in reading on the left side.
 abbrev pub BlamesLeft : {R : Type 0} → Stream R → MergeCause → Type 0
 BlamesLeft left (Left fault) = Blames left.bytes left.failures left.old left.new fault.kind
 BlamesLeft left (Right fault) = ⊥
 BlamesLeft left Write = ⊥
 
--- What a fault says of the right side's device, where that side is read on: want of memory may be told of the left one.
+-- The failures of the right side's device after a fault in reading on the right side: `OutOfMemory` may be reported for
+-- the left one.
 abbrev pub BlamesRight : {S : Type 0} → Stream S → MergeCause → Type 0
 BlamesRight right (Left fault) = (fault.kind ≡ OutOfMemory) × IsUnfailed right
 BlamesRight right (Right fault) = Blames right.bytes right.failures right.old right.new fault.kind
@@ -297,40 +298,40 @@ HasStoppedMerge a1 b1 a2 b2 w0 w1 e = ByCause e.cause
     (λ fault. RightRefused a1 b1 a2 b2 w0 w1 fault e.written)
     (WriteStopped a1 b1 a2 b2 w0 w1 e.written)
 
--- What a call makes of a merge, of the inputs and the output before it and after it: it goes on, or stops.
+-- The effect of a call on a merge, with the inputs and the output before and after it: the merge goes on, or stops.
 abbrev pub MergesOn : {T : Type 0} → (b1 c1 b2 c2 w1 w2 : Option (List ℕ)) → Sides → Sides
     → Result T MergeFault → Type 0
 MergesOn b1 c1 b2 c2 w1 w2 old new result =
     (a1 a2 w0 : Option (List ℕ)) → Merging a1 b1 a2 b2 w0 w1 old
     → MatchResult result (λ _. Merging a1 c1 a2 c2 w0 w2 new) (λ e. HasStoppedMerge a1 c1 a2 c2 w0 w2 e)
 
--- the left side is told, before the magic is written, too
+-- the fault is reported for the left side, also before the magic is written
 abbrev pub LeftTold : (a1 b1 a2 b2 w0 w1 : Option (List ℕ)) → RecordFault → ℕ → Type 0
 LeftTold a1 b1 a2 b2 w0 w1 fault written =
     ((written ≡ 0) × Appends w0 w1 [] × Consumes a2 b2 [] × StopsBeforeRecords a1 b1 fault)
     ⊎ LeftRefused a1 b1 a2 b2 w0 w1 fault written
 
--- the right side is
+-- the fault is reported for the right side, also before the magic is written
 abbrev pub RightTold : (a1 b1 a2 b2 w0 w1 : Option (List ℕ)) → RecordFault → ℕ → Type 0
 RightTold a1 b1 a2 b2 w0 w1 fault written =
     ((written ≡ 0) × Appends w0 w1 [] × HasMagicRead a1 b1 × StopsBeforeRecords a2 b2 fault)
     ⊎ RightRefused a1 b1 a2 b2 w0 w1 fault written
 
--- how it stops at all
+-- how a merge stops, before or after the magic
 abbrev pub StopsMerge : (a1 b1 a2 b2 w0 w1 : Option (List ℕ)) → MergeFault → Type 0
 StopsMerge a1 b1 a2 b2 w0 w1 e = ByCause e.cause
     (λ fault. LeftTold a1 b1 a2 b2 w0 w1 fault e.written)
     (λ fault. RightTold a1 b1 a2 b2 w0 w1 fault e.written)
     (WriteStopped a1 b1 a2 b2 w0 w1 e.written)
 
--- ---- turns
+-- ---- steps
 
--- want of memory for the record that the side holds
+-- the fault `OutOfMemory` for the record that the side holds
 abbrev pub memory_for : MergeInput → RecordFault
 memory_for side = memory_after (side.reader.offset - length side.reader.last)
 
--- What is told where one record more would be written than there may be: memory is wanted by the side that it comes
--- from, after those before it.
+-- The fault if one record more than the largest number would be written: `OutOfMemory` for the side with that record,
+-- at the offset after the records before it.
 abbrev pub IsRefusedMore : Sides → MergeFault → Type 0
 IsRefusedMore m e =
     (m.written.records ≡ most_records) × (e.written ≡ m.written.bytes)
@@ -341,8 +342,8 @@ IsRefusedMore m e =
 abbrev pub IsLastOfBoth : Sides → Type 0
 IsLastOfBoth m = (m.left.ahead ≡ Held) × (m.left.reader.last ≡ m.right.reader.last)
 
--- What is told where the right side is refused so: want of memory for a record that the left side holds, too, is that
--- side's.
+-- The fault to report if the right side is refused with this one: `OutOfMemory` for a record that the left side also
+-- holds is reported for the left side.
 abbrev pub IsToldOfRight : Sides → RecordFault → MergeFault → Type 0
 IsToldOfRight m fault e =
     ((fault.kind ≡ OutOfMemory) × IsLastOfBoth m
@@ -353,31 +354,31 @@ IsToldOfRight m fault e =
 abbrev pub cost_of : Sides → ℕ
 cost_of m = weight m.left + weight m.right
 
--- The record that was next had its turn: where the right side has it, that side is to be read on. The numbers fit,
--- and there is less to do.
+-- The next record was processed: if the right side has it, that side is to be read on. The numbers are within their
+-- limits, and fewer steps remain.
 pub record HadTurn (old new : Sides) : Type 0 where
   pub fits : Fits new
   pub had : first_of old.left old.right ≢ Less → new.right.ahead ≡ Unread
   pub less : cost_of new < cost_of old
 
--- One record more was written, and the numbers fit.
+-- One more record was written, and the numbers are within their limits.
 pub record IsOneMore (old new : Sizes) : Type 0 where
   pub records : new.records ≡ old.records + 1
   pub bytes : new.bytes ≤ 8 + new.records * 2 ^ 64
 
--- Both sides were read on: the numbers fit, and there is no more to do than there was.
+-- Both sides were read on: the numbers are within their limits, and no more steps remain than before.
 pub record IsReadOn (old new : Sides) : Type 0 where
   pub fits : Fits new
   pub read : IsRead new
   pub less : cost_of new ≤ cost_of old
 
--- Both texts were read to their ends, and the numbers fit.
+-- Both texts were read to their ends, and the numbers are within their limits.
 pub record HasEnded (m : Sides) : Type 0 where
   pub fits : Fits m
   pub left : m.left.ahead ≡ Ended
   pub right : m.right.ahead ≡ Ended
 
--- Two whole texts were read, and the end record was written after what was written of both.
+-- Two whole texts were read, and the end record was written after their records.
 pub record MergedAll (a1 b1 a2 b2 w0 w1 : Option (List ℕ)) (sizes : Sizes) : Type 0 where
   pub before : Option (List ℕ)
   pub sides : Sides
@@ -387,7 +388,7 @@ pub record MergedAll (a1 b1 a2 b2 w0 w1 : Option (List ℕ)) (sizes : Sizes) : T
   pub records : sizes.records ≡ sides.written.records
   pub bytes : sizes.bytes ≡ sides.written.bytes + length (end_record sides.written.records)
 
--- what a merge leaves
+-- the result of a merge
 abbrev pub Leaves : (a1 b1 a2 b2 w0 w1 : Option (List ℕ)) → Result Sizes MergeFault → Type 0
 Leaves a1 b1 a2 b2 w0 w1 (Ok sizes) = MergedAll a1 b1 a2 b2 w0 w1 sizes
 Leaves a1 b1 a2 b2 w0 w1 (Err e) = StopsMerge a1 b1 a2 b2 w0 w1 e

@@ -1,5 +1,5 @@
-//! A merge that tells what each record of its right side is to the left one, and whether the right one retires what is
-//! there.
+//! A merge that reports the effect of each record of its right side on the left one, and whether the right one retires
+//! a slice of the left one.
 
 ghost use Rattle.std.specs.Prelude.{◌≡◌, ◌≢◌, ◌<◌, ℕ, List, [], Option, OnOk, IfOk, IfErr, IsSome, IfSome, map, false};
 ghost use Rattle.std.specs.List.{list_any};
@@ -16,11 +16,12 @@ ghost use Rattle.archive_merge.specs.MergeSteps.{IsReadOn};
 ghost use Rattle.archive_merge.specs.MergeSteps.{Leaves, Merging, cost_of, first_of, memory_after};
 ghost use Rattle.archive_merge.specs.Sides.{sides_of};
 ghost use Rattle.archive_merge.specs.ArrivalMerge.{HasOperations, IsMergedWithArrivals};
-ghost use Rattle.archive_merge.specs.ArrivalSteps.{TellsNext, TellsOn, ReportsAllArrivals, has_next, told_with};
+ghost use Rattle.archive_merge.specs.ArrivalSteps.{IsNextArrival, GoesOnWithArrivals, ReportsAllArrivals};
+ghost use Rattle.archive_merge.specs.ArrivalSteps.{has_next, with_arrival};
 ghost use Rattle.archive_merge.specs.Arrivals.{arrival_of};
 
 use crate::arrivals::{Arrival, MergeReport, arrival_by};
-use crate::merging::{Merge, first, read_left, read_right, share, take_turn};
+use crate::merging::{Merge, next_side, read_left, read_right, share_retirement, take_turn};
 use crate::side::{Lookahead, ReadFrom, Side};
 use crate::streams::{begin_both, finish};
 use archive_records::{MergeCause, MergeFault, RecordFault, Sizes};
@@ -28,11 +29,11 @@ use byte_device::{Sink, Source};
 use memory::Heap;
 use std::cmp::Ordering;
 
-/// What the record that is next is to the left side: none where it is that side's alone. All of the left side that are
-/// not above it were read, and so were its retirements where it is an admission.
+/// The effect of the next record on the left side: none if only the left side has it. All records of the left side that
+/// are not above it were read; if it is an admission, so were all retirements of that side.
 fn next_arrival<B: Side>(m: &mut Merge<B>, next: Ordering) -> Option<Arrival>
     requires { next ≡ first_of m.old.left (B.seen m.old.right) }
-    ensures tells { TellsNext (sides_of B.seen m.old) result }
+    ensures tells { IsNextArrival (sides_of B.seen m.old) result }
     ensures right { IsSome result → first_of m.old.left (B.seen m.old.right) ≢ Less }
     ensures same { m.new ≡ m.old }
 {
@@ -46,7 +47,7 @@ fn next_arrival<B: Side>(m: &mut Merge<B>, next: Ordering) -> Option<Arrival>
     }
 }
 
-/// Whether the left side has the record that is next, and does not retire it.
+/// Whether the left side has the next record, and does not retire it.
 fn has_next<B: Side>(m: &Merge<B>, next: Ordering) -> bool
     requires { next ≡ first_of m.now.left (B.seen m.now.right) }
     ensures { result ≡ has_next (sides_of B.seen m.now) }
@@ -57,8 +58,8 @@ fn has_next<B: Side>(m: &Merge<B>, next: Ordering) -> bool
     }
 }
 
-/// Tells of the record of the right side that had its turn, if there is one. Memory that is wanted for that is wanted
-/// before the next one is read.
+/// Reports the processed record of the right side, if there is one. If recording the result runs out of memory, the
+/// next record is not read.
 fn push_arrival<B: Side>(
     m: &Merge<B>,
     told: &mut MergeReport,
@@ -67,7 +68,7 @@ fn push_arrival<B: Side>(
     requires fits { Fits (sides_of B.seen m.now) }
     requires read { m.now.left.ahead ≢ Lookahead.Unread }
     requires unread { IsSome arrival → (B.seen m.now.right).ahead ≡ Lookahead.Unread }
-    ensures arrivals { OnOk result (told.new.arrivals.items ≡ told_with told.old.arrivals.items arrival) }
+    ensures arrivals { OnOk result (told.new.arrivals.items ≡ with_arrival told.old.arrivals.items arrival) }
     ensures withdraws { told.new.withdraws ≡ told.old.withdraws }
     ensures stops { IfErr result (λ e. (a1 b1 a2 b2 w0 w1 : Option (List ℕ))
         → Merging a1 b1 a2 b2 w0 w1 (sides_of B.seen m.now)
@@ -86,7 +87,8 @@ fn push_arrival<B: Side>(
     }
 }
 
-/// Reads on after what had its turn, left first, and tells of the right side's record before that side is read on.
+/// Reads on the sides whose record was processed, left first, and reports the right side's record before that side is
+/// read on.
 fn push_arrival_and_read_on<R: Source, F, B: ReadFrom<F>>(
     r1: &mut R,
     r2: &mut F,
@@ -96,9 +98,10 @@ fn push_arrival_and_read_on<R: Source, F, B: ReadFrom<F>>(
 ) -> Result<(), MergeFault>
     requires fits { Fits (sides_of B.seen m.old) }
     requires unread { IsSome arrival → (B.seen m.old.right).ahead ≡ Lookahead.Unread }
-    ensures telling { (w : Option (List ℕ)) → TellsOn (R.left r1.old) (R.left r1.new) (B.left r2.old) (B.left r2.new)
+    ensures telling { (w : Option (List ℕ))
+        → GoesOnWithArrivals (R.left r1.old) (R.left r1.new) (B.left r2.old) (B.left r2.new)
         w w (sides_of B.seen m.old) (sides_of B.seen m.new)
-        (told_with told.old.arrivals.items arrival) told.new.arrivals.items
+        (with_arrival told.old.arrivals.items arrival) told.new.arrivals.items
         told.old.withdraws told.new.withdraws result }
     ensures read { OnOk result (IsReadOn (sides_of B.seen m.old) (sides_of B.seen m.new)) }
     ensures devices { BlamesDevices (stream R.left R.failures r1.old r1.new) (stream B.left B.failures r2.old r2.new)
@@ -109,7 +112,7 @@ fn push_arrival_and_read_on<R: Source, F, B: ReadFrom<F>>(
     read_right(r2, m)
 }
 
-/// Gives the record that is next its turn, tells of it where it is one of the right side, and reads on.
+/// Processes the next record, reports it if it is one of the right side, and reads on.
 fn merge_next_record<R: Source, F, B: ReadFrom<F>, W: Sink>(
     r1: &mut R,
     r2: &mut F,
@@ -118,7 +121,7 @@ fn merge_next_record<R: Source, F, B: ReadFrom<F>, W: Sink>(
     told: &mut MergeReport,
 ) -> Result<(), MergeFault>
     requires { IsBeforeTurn (sides_of B.seen m.old) }
-    ensures telling { TellsOn (R.left r1.old) (R.left r1.new) (B.left r2.old) (B.left r2.new)
+    ensures telling { GoesOnWithArrivals (R.left r1.old) (R.left r1.new) (B.left r2.old) (B.left r2.new)
         (W.held w.old) (W.held w.new) (sides_of B.seen m.old) (sides_of B.seen m.new)
         told.old.arrivals.items told.new.arrivals.items
         told.old.withdraws told.new.withdraws result }
@@ -127,8 +130,8 @@ fn merge_next_record<R: Source, F, B: ReadFrom<F>, W: Sink>(
     ensures devices { BlamesDevices (stream R.left R.failures r1.old r1.new) (stream B.left B.failures r2.old r2.new)
         (W.failures w.old) (W.failures w.new) result }
 {
-    let next = first(&m.left, &m.right);
-    share(m, next);
+    let next = next_side(&m.left, &m.right);
+    share_retirement(m, next);
     let arrival = next_arrival(m, next);
     let had = has_next(m, next);
     let passed = take_turn(w, m, next)?;
@@ -136,7 +139,7 @@ fn merge_next_record<R: Source, F, B: ReadFrom<F>, W: Sink>(
     push_arrival_and_read_on(r1, r2, m, told, arrival)
 }
 
-/// Writes all records after the magic, but for those that are covered, and tells of those of the right side.
+/// Writes all records after the magic, without the covered ones, and reports those of the right side.
 fn merge_records_with_arrivals<R: Source, F, B: ReadFrom<F>, W: Sink>(
     r1: &mut R,
     r2: &mut F,
@@ -145,7 +148,7 @@ fn merge_records_with_arrivals<R: Source, F, B: ReadFrom<F>, W: Sink>(
     told: &mut MergeReport,
 ) -> Result<(), MergeFault>
     requires fits { Fits (sides_of B.seen m.old) }
-    ensures telling { TellsOn (R.left r1.old) (R.left r1.new) (B.left r2.old) (B.left r2.new)
+    ensures telling { GoesOnWithArrivals (R.left r1.old) (R.left r1.new) (B.left r2.old) (B.left r2.new)
         (W.held w.old) (W.held w.new) (sides_of B.seen m.old) (sides_of B.seen m.new)
         told.old.arrivals.items told.new.arrivals.items
         told.old.withdraws told.new.withdraws result }
@@ -160,7 +163,7 @@ fn merge_records_with_arrivals<R: Source, F, B: ReadFrom<F>, W: Sink>(
     Ok(())
 }
 
-/// Merges two inputs, and tells of the right one's records. What is said is of the bytes that were taken.
+/// Merges two inputs, and reports the right one's records. The contract is about the bytes that were consumed.
 fn merge_taken_with_arrivals<R: Source, F, B: ReadFrom<F>, W: Sink>(
     heap: &Heap,
     r1: &mut R,
@@ -183,14 +186,14 @@ fn merge_taken_with_arrivals<R: Source, F, B: ReadFrom<F>, W: Sink>(
     finish(w, &m)
 }
 
-/// Merges two archives as [`merge_streams`](crate::merge_streams) does, and tells of each record of the right one, in
-/// their order, whether the left one retires it, and else whether it has it; in a text of version 1 of the records that
-/// are covered there, too. And it tells whether the right one retires a slice that the left one has.
+/// Merges two archives like [`merge_streams`](crate::merge_streams), and reports for each record of the right one, in
+/// order, whether the left one retires it, and if not, whether it has it; in a text of version 1 also for the records
+/// that are covered there. It also reports whether the right one retires a slice that the left one has.
 ///
 /// # Errors
 ///
-/// Those of `merge_streams`. Memory that is wanted for what is told of a record is wanted by the right side, before the
-/// next one is read; where there is none at all, by the left one, before anything is read.
+/// Those of `merge_streams`. If the report of a record runs out of memory, that is `OutOfMemory` of the right side,
+/// before the next one is read; if there is no memory at all, it is that of the left one, before anything is read.
 pub fn merge_with_arrivals<R: Source, F, B: ReadFrom<F>, W: Sink>(
     heap: &Heap,
     left: &mut R,
@@ -204,7 +207,7 @@ pub fn merge_with_arrivals<R: Source, F, B: ReadFrom<F>, W: Sink>(
         (stream B.left B.failures right.old right.new) (stream W.held W.failures w.old w.new) both.0
         both.1.arrivals.items both.1.withdraws) }
 
-    // Where the texts are known, of their contents.
+    // If the texts are known, about their contents.
     ensures arrivals { IfOk result (λ both. IfSome (R.left left.old) (λ t. IfSome (B.left right.old) (λ u.
         (o p : Operations) → IsContent o → IsArchiveOf o t → HasOperations p u
         → both.1.arrivals.items ≡ map (arrival_of o) (listing p)))) }
@@ -212,7 +215,7 @@ pub fn merge_with_arrivals<R: Source, F, B: ReadFrom<F>, W: Sink>(
         (o p : Operations) → IsContent o → IsArchiveOf o t → HasOperations p u
         → both.1.withdraws ≡ list_any (is_covered p) (listing o)))) }
 
-    // Whatever stops it, and whatever is known of the inputs.
+    // Whatever stops it, and whether the inputs are known or not.
     ensures written { IfErr result (λ e. GainsCount (stream W.held W.failures w.old w.new) e.written) }
 {
     let mut told = MergeReport::nothing(heap.share());

@@ -1,11 +1,11 @@
-//! What a merge tells of its sides.
+//! The report of a merge on its sides.
 
 ghost use Rattle.std.specs.Prelude.{◌≡◌, ◌≤◌, ◌&&◌, ◌||◌, count_by, false, [], length};
 ghost use Rattle.archive_merge.specs.Arrivals.{is_new, arrival_by};
 
 use memory::Heap;
 
-/// What a record of the right side is to the left one.
+/// The effect of a record of the right side on the left one.
 #[derive(Clone, Copy, Debug, PartialEq, Eq)]
 pub enum Arrival {
     /// The left side neither has it nor retires it.
@@ -25,7 +25,7 @@ impl Arrival {
     }
 }
 
-/// How many are new.
+/// The number of new ones.
 pub fn number_of_new(arrivals: &[Arrival]) -> u64
     ensures counted { result ≡ count_by is_new arrivals.now }
     ensures within { result ≤ length arrivals.now }
@@ -33,17 +33,17 @@ pub fn number_of_new(arrivals: &[Arrival]) -> u64
     arrivals.iter().filter(|arrival| arrival.is_new()).count() as u64
 }
 
-/// What a merge tells of its sides.
+/// The report of a merge on its sides.
 #[derive(Drop)]
 pub struct MergeReport {
-    /// What each record of the right side was to the left one when its turn came, in their order.
+    /// The effect of each record of the right side on the left one when it was processed, in order.
     pub arrivals: Vec<Arrival, Heap>,
     /// Whether the right side retires a slice that the left one has.
     pub withdraws: bool,
 }
 
 impl MergeReport {
-    /// Nothing.
+    /// Creates an empty report.
     pub fn nothing(heap: Heap) -> MergeReport
         ensures arrivals { result.arrivals.items ≡ [] }
         ensures withdraws { result.withdraws ≡ false }
@@ -54,7 +54,7 @@ impl MergeReport {
         }
     }
 
-    /// Tells that a record was passed over, or was not, and whether the left side had it.
+    /// Reports whether a record was skipped, and whether the left side had it.
     pub fn pass(&mut self, passed: bool, had: bool)
         ensures withdraws { self.new.withdraws ≡ ((passed && had) || self.old.withdraws) }
         ensures arrivals { self.new.arrivals ≡ self.old.arrivals }
@@ -65,7 +65,7 @@ impl MergeReport {
     }
 }
 
-/// What a record is to the left side by whether that side retires it, and else whether it has it.
+/// The effect of a record on the left side, by whether that side retires it, and whether it has it.
 pub fn arrival_by(retired: bool, had: bool) -> Arrival
     ensures { result ≡ arrival_by retired had }
 {

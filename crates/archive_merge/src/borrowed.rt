@@ -1,4 +1,4 @@
-//! Operations that stand in memory, read as the text that they would be.
+//! Operations in memory, read as if they were a text.
 
 ghost use Rattle.std.specs.Prelude.{◌≡◌, ◌+◌, ◌<◌, ◌^◌, ◌++◌, ℕ, List, [], length, map, true, false};
 ghost use Rattle.std.specs.Prelude.{Some, None, IfOk, IfSome};
@@ -22,29 +22,29 @@ use byte_device::{Sink, WriteFault};
 use memory::{Heap, NoMemory};
 use std::cmp::Ordering;
 
-/// How much of a text was taken.
+/// The part of a text that was read.
 #[derive(Clone, Copy, Debug, PartialEq, Eq)]
 enum Part {
     /// Nothing.
     None,
     /// The magic, and some records after it.
     Records,
-    /// All.
+    /// The whole text.
     All,
 }
 
-/// The text of an archive of version 1 that has these operations, in which slices may stand that are covered. It is
-/// never written down: a [`BorrowedSide`] takes the records as they stand.
+/// The text of an archive of version 1 with these operations, some of which may be covered. Its bytes never exist: a
+/// [`BorrowedSide`] reads the records from where they are.
 #[derive(Drop)]
 pub struct BorrowedText<'a> {
     taken: Part,
-    /// How many records were taken.
+    /// The number of records that were read.
     count: u64,
     rest: &'a [Operation],
 }
 
 impl<'a> BorrowedText<'a> {
-    /// The text of these operations, which are to ascend strictly by their records.
+    /// Creates the text of these operations, which must strictly ascend by their records.
     pub fn new(operations: &'a [Operation]) -> Self
         ensures { left_of result ≡ text_of OldArchive (map record_bytes operations.now) }
     {
@@ -55,7 +55,7 @@ impl<'a> BorrowedText<'a> {
         }
     }
 
-    /// Takes the magic, where nothing was taken before.
+    /// Reads the magic. Returns false if something was read before.
     fn take_magic(&mut self) -> bool
         ensures taken { result ≡ true → left_of self.old ≡ old_magic ++ left_of self.new }
         ensures same { result ≡ false → self.new ≡ self.old }
@@ -67,7 +67,7 @@ impl<'a> BorrowedText<'a> {
         true
     }
 
-    /// Whether the magic was taken, so many records after it, and nothing else.
+    /// Whether exactly the magic and this number of records were read.
     fn has_taken_just(&self, count: u64) -> bool
         ensures taken { result ≡ true → self.now.taken ≡ Part.Records }
         ensures count { result ≡ true → self.now.count ≡ count }
@@ -75,7 +75,7 @@ impl<'a> BorrowedText<'a> {
         self.taken == Part::Records && self.count == count
     }
 
-    /// Takes the next record, or else the end record.
+    /// Reads the next record, or the end record.
     fn take_next(&mut self) -> Option<Record<'a>>
         requires taken { self.old.taken ≡ Part.Records }
         requires few { self.old.count < 2 ^ 63 }
@@ -97,7 +97,7 @@ impl<'a> BorrowedText<'a> {
     }
 }
 
-/// Shows that an operation that is borrowed is one.
+/// Proves that a borrowed operation is an operation.
 fn show_operation(item: &Record<'_>)
     ensures { IsOperation (operation_borrowed item.now) }
 {
@@ -111,7 +111,7 @@ fn show_operation(item: &Record<'_>)
     }
 }
 
-/// How many bytes the record of an operation has.
+/// The length of an operation's record in bytes.
 fn length_of(item: &Record<'_>) -> u64
     ensures { result ≡ length (borrowed_bytes item.now) }
 {
@@ -121,7 +121,7 @@ fn length_of(item: &Record<'_>) -> u64
     }
 }
 
-/// Compares a record with one that stands in two parts.
+/// Compares a record with one in two parts.
 fn compare_parts(item: &[u8], front: &[u8], rest: &[u8]) -> Ordering
     ensures { result ≡ slice_cmp nat_cmp item.now (front.now ++ rest.now) }
 {
@@ -142,7 +142,7 @@ fn compare_record(item: &[u8], last: &Record<'_>) -> Ordering
     }
 }
 
-/// Whether a record may stand after the last one, if there is one.
+/// Whether a record may follow the last one, if there is one.
 #[tactic(auto, unfolding(archive_records::specs::Kind::may_follow, archive_records::specs::Kind::allows))]
 fn may_follow(last: &Option<Record<'_>>, next: &Record<'_>) -> bool
     ensures { result ≡ may_follow OldArchive (last_bytes last.now) (borrowed_bytes next.now) }
@@ -153,7 +153,7 @@ fn may_follow(last: &Option<Record<'_>>, next: &Record<'_>) -> bool
     }
 }
 
-/// Whether one of these retirements covers the slice. A digest that is asked for is kept for whoever asks next.
+/// Whether one of these retirements covers the slice. If the slice's digest is needed, it is computed and kept.
 fn covers_slice(retirements: &Retirements, slice: &mut CheckedSlice<'_>) -> bool
     ensures covered { result ≡ is_covered (set_of retirements.now) (admission_record slice.old) }
     ensures same { slice.new ≡ slice.old }
@@ -173,7 +173,7 @@ fn covers(shared: &Retirements, retired: &Retirements, item: &mut Record<'_>) ->
     }
 }
 
-/// Keeps the record if it is a retirement, and answers whether one of them, or a shared one, covers it.
+/// Adds the record if it is a retirement, and returns whether a retirement, own or shared, covers it.
 fn keep(
     shared: &Retirements,
     retired: &mut Retirements,
@@ -190,8 +190,8 @@ fn keep(
     Ok(covers(shared, retired, next))
 }
 
-/// A side of a merge whose records are operations that stand in memory. None is copied, no slice is checked again, and
-/// one is hashed at most once.
+/// A side of a merge whose records are operations in memory. None is copied, no slice is checked again, and each is
+/// hashed at most once.
 #[derive(Drop)]
 pub struct BorrowedSide<'a> {
     last: Option<Record<'a>>,
@@ -203,14 +203,14 @@ pub struct BorrowedSide<'a> {
 }
 
 impl<'a> BorrowedSide<'a> {
-    /// Want of memory after what was read.
+    /// The fault `OutOfMemory` at the offset that was reached.
     fn refused(&self) -> RecordFault
         ensures { result ≡ record { kind = RecordFaultKind.OutOfMemory; offset = self.now.offset } }
     {
         RecordFault::out_of_memory(self.offset)
     }
 
-    /// Takes the next record over the last one.
+    /// Reads the next record over the last one.
     fn take(&mut self, next: Record<'a>, shared: &Retirements) -> Result<(), RecordFault>
         requires few { self.old.count + 1 < 2 ^ 63 }
         ensures { (rest : List ℕ) → AdvancesTo (Some (borrowed_bytes next.entry ++ rest)) (Some rest)
@@ -241,8 +241,8 @@ impl<'a> BorrowedSide<'a> {
         Ok(())
     }
 
-    /// Reads the next record over the last one, or else the end record. Of a text that another side has begun nothing
-    /// is taken: memory is wanted for two.
+    /// Reads the next record over the last one, or the end record. From a text that another side has begun nothing is
+    /// read: it is refused with `OutOfMemory`.
     fn advance(
         &mut self,
         text: &mut BorrowedText<'a>,

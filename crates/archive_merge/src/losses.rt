@@ -1,4 +1,4 @@
-//! What is lost where one archive takes the place of another.
+//! The operations that are lost if one archive replaces another.
 
 ghost use Rattle.std.specs.Prelude.{IfErr, IfOk};
 ghost use Rattle.byte_device.specs.Devices.{stream};
@@ -11,16 +11,16 @@ use archive_records::MergeFault;
 use byte_device::{Nowhere, Source};
 use memory::Heap;
 
-/// How many operations of the old archive the new one neither has nor covers by a retirement: those that are lost where
-/// it takes the place of the old one. Each may be of either version. The two are read side by side, as
-/// [`merge_streams`](crate::merge_streams) reads them, in the memory of one record of each, of 57 bytes for each
-/// retirement of either and of one for each record of the old one.
+/// The number of operations of the old archive that the new one neither has nor covers by a retirement: those that are
+/// lost if it replaces the old one. Each may have either version. The two are read side by side, like in
+/// [`merge_streams`](crate::merge_streams), in the memory of one record of each, of 57 bytes for each retirement of
+/// either and of one byte for each record of the old one.
 ///
 /// # Errors
 ///
-/// `Left` with the fault that `read_archive` of `archive_read` gives of the new archive, and `Right` with that of the
-/// old one: of two that are refused it is the one that stops [`merge_streams`](crate::merge_streams). `Write` never
-/// comes.
+/// `Left` with the fault that `read_archive` of `archive_read` returns for the new archive, and `Right` with that of
+/// the old one: if both are refused, it is the one that stops [`merge_streams`](crate::merge_streams). `Write` is never
+/// returned.
 pub fn lost_operations<R: Source, S: Source>(
     heap: &Heap,
     new: &mut R,

@@ -1,5 +1,5 @@
-//! A merge, turn by turn: the record that is next is written, or passed over where it is covered, and the side or sides
-//! that it came from are read on.
+//! A merge, step by step: the next record is written, or skipped if it is covered, and the side or sides with it are
+//! read on.
 
 ghost use Rattle.std.specs.Prelude.{◌≡◌, ◌+◌, ◌*◌, ◌^◌, ◌<◌, ◌≤◌, ℕ, List, Option, OnOk};
 ghost use Rattle.std.specs.Prelude.{Bool, IfErr, IfOk, IsTrue, ◌↔◌, ◌≢◌, ◌&&◌, ◌||◌, true, false};
@@ -12,7 +12,7 @@ ghost use Rattle.archive_merge.specs.MergeSteps.{IsRefusedMore, IsToldOfRight, M
 ghost use Rattle.archive_merge.specs.MergeSteps.{after_turn, cost_of, first_of, next_record, unread_of};
 ghost use Rattle.archive_merge.specs.Sides.{sides_of};
 ghost use Rattle.archive_merge.specs.declared.arrivals.Arrival.{Arrival};
-ghost use Rattle.archive_merge.specs.ArrivalSteps.{Telling, TellsNext, has_next, told_with};
+ghost use Rattle.archive_merge.specs.ArrivalSteps.{MergingWithArrivals, IsNextArrival, has_next, with_arrival};
 
 use crate::side::{Lookahead, MergeInput, ReadFrom, Side};
 use archive_core::Retirements;
@@ -20,8 +20,8 @@ use archive_records::{MOST, MergeCause, MergeFault, RecordFault, RecordFaultKind
 use byte_device::{Sink, Source, WriteFault, put};
 use std::cmp::Ordering;
 
-/// A text and a right side that are merged, and how much of their join was written. A retirement that both sides have
-/// is kept once, in what they share, and counts as each one's own.
+/// A text and a right side that are merged, and the sizes of the written part of their join. A retirement that both
+/// sides have is kept once, in `shared`, and counts as each one's own.
 #[derive(Drop)]
 pub struct Merge<B> {
     pub left: MergeInput,
@@ -31,7 +31,7 @@ pub struct Merge<B> {
 }
 
 impl<B: Side> Merge<B> {
-    /// What is told where this stops the merge after what was written.
+    /// The fault with this cause after the bytes that were written.
     pub fn stopped_by(&self, cause: MergeCause) -> MergeFault
         ensures { result ≡ record { cause = cause; written = self.now.written.bytes } }
     {
@@ -41,8 +41,7 @@ impl<B: Side> Merge<B> {
         }
     }
 
-    /// Tests whether there may be one record more. Where there may not, memory is wanted by the side that it comes
-    /// from.
+    /// Tests whether one more record may be written. If not, it is `OutOfMemory` of the side with that record.
     fn test_number(&self, next: Ordering) -> Result<(), MergeFault>
         requires few { self.now.written.records < 2 ^ 63 }
         requires next { next ≡ first_of self.now.left (B.seen self.now.right) }
@@ -66,8 +65,8 @@ impl<B: Side> Merge<B> {
         self.left.ahead == Lookahead::Held && self.right.compare(self.left.reader.last()).is_eq()
     }
 
-    /// What is told where the right side is refused so. Want of memory for a record that both sides have is the left
-    /// one's: the right side read it whole, and the left side holds it.
+    /// The fault to report if the right side is refused with this one. `OutOfMemory` for a record that both sides have
+    /// is reported for the left one: the right side read it whole, and the left side holds it.
     fn right_refused(&self, fault: RecordFault) -> MergeFault
         ensures { IsToldOfRight (sides_of B.seen self.now) fault result }
     {
@@ -92,8 +91,9 @@ impl<B: Side> Merge<B> {
     }
 }
 
-/// Which side has the next record: `Less` the left one, `Equal` both, `Greater` the right one, also if both have ended.
-pub fn first<B: Side>(left: &MergeInput, right: &B) -> Ordering
+/// The side with the next record: `Less` for the left one, `Equal` for both, `Greater` for the right one, also if both
+/// have ended.
+pub fn next_side<B: Side>(left: &MergeInput, right: &B) -> Ordering
     ensures { result ≡ first_of left.now (B.seen right.now) }
 {
     match (left.ahead, right.ahead()) {
@@ -103,9 +103,9 @@ pub fn first<B: Side>(left: &MergeInput, right: &B) -> Ordering
     }
 }
 
-/// Whether a retirement of either side covers the record that is next. One of its own side does so in version 1 alone,
-/// where the reader tells it. All retirements stand before the admissions, so both sides' were read where an admission
-/// is next.
+/// Whether a retirement of either side covers the next record. One of its own side does so only in version 1, and the
+/// reader reports it. All retirements precede the admissions, so those of both sides have been read if the next record
+/// is an admission.
 fn is_covered<B: Side>(m: &mut Merge<B>, next: Ordering) -> bool
     requires { next ≡ first_of m.old.left (B.seen m.old.right) }
     ensures covered { DecidesCovered (sides_of B.seen m.old).left (sides_of B.seen m.old).right result }
@@ -122,7 +122,7 @@ fn is_covered<B: Side>(m: &mut Merge<B>, next: Ordering) -> bool
     }
 }
 
-/// Leaves the side or sides that the record which is next comes from to be read on, as if it had been written.
+/// Marks the side or sides with the next record to be read on, as if it had been written.
 fn pass_over<B: Side>(m: &mut Merge<B>, next: Ordering)
     requires { next ≡ first_of m.old.left (B.seen m.old.right) }
     ensures { sides_of B.seen m.new ≡ after_turn (sides_of B.seen m.old) m.old.written }
@@ -175,7 +175,7 @@ fn put_right<W: Sink, B: Side>(
     Ok(())
 }
 
-/// Writes the record that is next, once, and leaves the side or sides that it came from to be read on.
+/// Writes the next record, once, and marks the side or sides with it to be read on.
 fn write_first<W: Sink, B: Side>(
     w: &mut W,
     m: &mut Merge<B>,
@@ -199,8 +199,8 @@ fn write_first<W: Sink, B: Side>(
     }
 }
 
-/// Gives the record that is next its turn: it is written, unless the retirements of either side cover it, and the side
-/// or sides that it came from are left to be read on. Tells whether it was passed over.
+/// Processes the next record: it is written, unless a retirement of either side covers it, and the side or sides with
+/// it are marked to be read on. Returns whether it was skipped.
 pub fn take_turn<W: Sink, B: Side>(
     w: &mut W,
     m: &mut Merge<B>,
@@ -212,10 +212,11 @@ pub fn take_turn<W: Sink, B: Side>(
         → MergesOn left left right right (W.held w.old) (W.held w.new) (sides_of B.seen m.old) (sides_of B.seen m.new)
         result }
     ensures telling { (a1 b1 a2 b2 w0 : Option (List ℕ)) (told : List Arrival) (withdraws : Bool)
-        (arrival : Option Arrival) → Telling a1 b1 a2 b2 w0 (W.held w.old) (sides_of B.seen m.old) told withdraws
-        → TellsNext (sides_of B.seen m.old) arrival
-        → IfOk result (λ passed. Telling a1 b1 a2 b2 w0 (W.held w.new) (sides_of B.seen m.new)
-        (told_with told arrival) ((passed && has_next (sides_of B.seen m.old)) || withdraws)) }
+        (arrival : Option Arrival)
+        → MergingWithArrivals a1 b1 a2 b2 w0 (W.held w.old) (sides_of B.seen m.old) told withdraws
+        → IsNextArrival (sides_of B.seen m.old) arrival
+        → IfOk result (λ passed. MergingWithArrivals a1 b1 a2 b2 w0 (W.held w.new) (sides_of B.seen m.new)
+        (with_arrival told arrival) ((passed && has_next (sides_of B.seen m.old)) || withdraws)) }
     ensures had { OnOk result (HadTurn (sides_of B.seen m.old) (sides_of B.seen m.new)) }
     ensures unfailed { OnOk result (W.failures w.new ≡ W.failures w.old) }
     ensures blames { IfErr result (λ e. BlamesWriter (W.failures w.old) (W.failures w.new) e.cause) }
@@ -234,16 +235,15 @@ pub fn take_turn<W: Sink, B: Side>(
     Ok(false)
 }
 
-/// Keeps a retirement that both sides hold once, in what they share. Where memory is wanted for that, each side keeps
-/// its own.
-pub fn share<B: Side>(m: &mut Merge<B>, next: Ordering)
+/// Keeps a retirement that both sides hold once, in `shared`. If there is no memory for that, each side keeps its own.
+pub fn share_retirement<B: Side>(m: &mut Merge<B>, next: Ordering)
     requires { next ≡ first_of m.old.left (B.seen m.old.right) }
     ensures next { next ≡ first_of m.new.left (B.seen m.new.right) }
     ensures merging { (a1 b1 a2 b2 w0 w1 : Option (List ℕ)) → Merging a1 b1 a2 b2 w0 w1 (sides_of B.seen m.old)
         → Merging a1 b1 a2 b2 w0 w1 (sides_of B.seen m.new) }
     ensures telling { (a1 b1 a2 b2 w0 w1 : Option (List ℕ)) (told : List Arrival) (withdraws : Bool)
-        → Telling a1 b1 a2 b2 w0 w1 (sides_of B.seen m.old) told withdraws
-        → Telling a1 b1 a2 b2 w0 w1 (sides_of B.seen m.new) told withdraws }
+        → MergingWithArrivals a1 b1 a2 b2 w0 w1 (sides_of B.seen m.old) told withdraws
+        → MergingWithArrivals a1 b1 a2 b2 w0 w1 (sides_of B.seen m.new) told withdraws }
     ensures fits { Fits (sides_of B.seen m.old) → Fits (sides_of B.seen m.new) }
     ensures left { m.new.left.ahead ≡ m.old.left.ahead }
     ensures right { (B.seen m.new.right).ahead ≡ (B.seen m.old.right).ahead }
@@ -261,15 +261,15 @@ pub fn share<B: Side>(m: &mut Merge<B>, next: Ordering)
     }
 }
 
-/// Reads the left side on, where its last record had its turn.
+/// Reads the left side on, if its last record was processed.
 pub fn read_left<R: Source, B: Side>(r1: &mut R, m: &mut Merge<B>) -> Result<(), MergeFault>
     requires { Fits (sides_of B.seen m.old) }
     ensures merging { (right w : Option (List ℕ))
         → MergesOn (R.left r1.old) (R.left r1.new) right right w w (sides_of B.seen m.old) (sides_of B.seen m.new)
         result }
     ensures telling { (a1 a2 b2 w0 w1 : Option (List ℕ)) (told : List Arrival) (withdraws : Bool)
-        → Telling a1 (R.left r1.old) a2 b2 w0 w1 (sides_of B.seen m.old) told withdraws
-        → OnOk result (Telling a1 (R.left r1.new) a2 b2 w0 w1 (sides_of B.seen m.new) told withdraws) }
+        → MergingWithArrivals a1 (R.left r1.old) a2 b2 w0 w1 (sides_of B.seen m.old) told withdraws
+        → OnOk result (MergingWithArrivals a1 (R.left r1.new) a2 b2 w0 w1 (sides_of B.seen m.new) told withdraws) }
     ensures fits { OnOk result (Fits (sides_of B.seen m.new)) }
     ensures read { OnOk result (m.new.left.ahead ≢ Lookahead.Unread) }
     ensures right { OnOk result (m.new.right ≡ m.old.right) }
@@ -283,7 +283,7 @@ pub fn read_left<R: Source, B: Side>(r1: &mut R, m: &mut Merge<B>) -> Result<(),
     }
 }
 
-/// Reads the right side on, where its last record had its turn, once the left side was.
+/// Reads the right side on, if its last record was processed, after the left side.
 pub fn read_right<F, B: ReadFrom<F>>(r2: &mut F, m: &mut Merge<B>) -> Result<(), MergeFault>
     requires fits { Fits (sides_of B.seen m.old) }
     requires read { m.old.left.ahead ≢ Lookahead.Unread }
@@ -291,8 +291,8 @@ pub fn read_right<F, B: ReadFrom<F>>(r2: &mut F, m: &mut Merge<B>) -> Result<(),
         → MergesOn left left (B.left r2.old) (B.left r2.new) w w (sides_of B.seen m.old) (sides_of B.seen m.new)
         result }
     ensures telling { (a1 b1 a2 w0 w1 : Option (List ℕ)) (told : List Arrival) (withdraws : Bool)
-        → Telling a1 b1 a2 (B.left r2.old) w0 w1 (sides_of B.seen m.old) told withdraws
-        → OnOk result (Telling a1 b1 a2 (B.left r2.new) w0 w1 (sides_of B.seen m.new) told withdraws) }
+        → MergingWithArrivals a1 b1 a2 (B.left r2.old) w0 w1 (sides_of B.seen m.old) told withdraws
+        → OnOk result (MergingWithArrivals a1 b1 a2 (B.left r2.new) w0 w1 (sides_of B.seen m.new) told withdraws) }
     ensures read { OnOk result (IsReadOn (sides_of B.seen m.old) (sides_of B.seen m.new)) }
     ensures unfailed { OnOk result (B.failures r2.new ≡ B.failures r2.old) }
     ensures blames { IfErr result (λ e. BlamesRight (stream B.left B.failures r2.old r2.new) e.cause) }
@@ -303,7 +303,7 @@ pub fn read_right<F, B: ReadFrom<F>>(r2: &mut F, m: &mut Merge<B>) -> Result<(),
     }
 }
 
-/// Reads on after what had its turn, left first.
+/// Reads on the sides whose record was processed, left first.
 fn read_on<R: Source, F, B: ReadFrom<F>>(
     r1: &mut R,
     r2: &mut F,
@@ -320,8 +320,7 @@ fn read_on<R: Source, F, B: ReadFrom<F>>(
     read_right(r2, m)
 }
 
-/// Gives the record that is next its turn, and reads on. Which side has it is found out once: two slices may be long,
-/// and the same.
+/// Processes the next record, and reads on. The side with it is determined once: two slices may be long, and equal.
 fn turn<R: Source, F, B: ReadFrom<F>, W: Sink>(
     r1: &mut R,
     r2: &mut F,
@@ -336,13 +335,13 @@ fn turn<R: Source, F, B: ReadFrom<F>, W: Sink>(
     ensures devices { BlamesDevices (stream R.left R.failures r1.old r1.new) (stream B.left B.failures r2.old r2.new)
         (W.failures w.old) (W.failures w.new) result }
 {
-    let next = first(&m.left, &m.right);
-    share(m, next);
+    let next = next_side(&m.left, &m.right);
+    share_retirement(m, next);
     take_turn(w, m, next)?;
     read_on(r1, r2, m)
 }
 
-/// Writes all records after the magic, but for those that are covered.
+/// Writes all records after the magic, without the covered ones.
 pub fn merge_records<R: Source, F, B: ReadFrom<F>, W: Sink>(
     r1: &mut R,
     r2: &mut F,

@@ -21,14 +21,14 @@ use byte_device::{Sink, Source, WriteFault, put};
 use memory::Heap;
 use std::cmp::Ordering;
 
-/// What is known of the next record.
+/// The state of the next record.
 #[derive(Clone, Copy, Debug, PartialEq, Eq)]
 pub enum Lookahead {
-    /// It is to be read, over the last one, which had its turn.
+    /// It is to be read, over the last one, which was processed.
     Unread,
-    /// It was read, and has its turn when it is next.
+    /// It was read, and is processed when it is next.
     Held,
-    /// There is none: the end record was read, and nothing stands after it.
+    /// There is none: the end record was read, and nothing follows it.
     Ended,
 }
 
@@ -40,8 +40,8 @@ pub struct MergeInput {
 }
 
 impl MergeInput {
-    /// Reads the next record over the last, or else the end record, after which the input ends. What
-    /// it shares with the other side counts as its own.
+    /// Reads the next record over the last one, or the end record, after which the input must end. The retirements that
+    /// it shares with the other side count as its own.
     fn advance<R: Source>(&mut self, r: &mut R, shared: &Retirements) -> Result<(), RecordFault>
         requires archive { kind_of self.old.reader.file ≡ Archive }
         requires few { self.old.reader.count < 2 ^ 63 }
@@ -68,28 +68,28 @@ impl MergeInput {
     }
 }
 
-/// The right side of a merge: records that are read one after another, of a text or of operations that are held.
+/// The right side of a merge: records that are read one after another, from a text or from operations in memory.
 pub trait Side: Sized + Drop {
     ghost use Rattle.archive_merge.specs.declared.side.MergeInput.{MergeInput};
 
-    // Where it stands, as a text that is read stands.
+    // Its state, as that of a text that is read.
     ghost seen: { Self → MergeInput };
 
-    /// What is known of the next record.
+    /// The state of the next record.
     fn ahead(&self) -> Lookahead
         ensures { result ≡ (seen self.now).ahead };
 
-    /// How a record compares with the last one.
+    /// Compares a record with the last one.
     fn compare(&self, item: &[u8]) -> Ordering
         ensures { result ≡ slice_cmp nat_cmp item.now (seen self.now).reader.last };
 
-    /// Writes the last record after the first `done` bytes of a text, and says how many there are then.
+    /// Writes the last record after the first `done` bytes of a text, and returns the new number of bytes.
     fn put_last<W: Sink>(&self, w: &mut W, done: u128) -> Result<u128, WriteFault>
         requires { done + 2 ^ 64 < 2 ^ 128 }
         ensures puts { Puts W.held W.failures (λ n. n) w.old w.new done (seen self.now).reader.last result }
         ensures short { IfOk result (λ n. n ≤ done + 2 ^ 64) };
 
-    /// Leaves the next record to be read: the last one had its turn.
+    /// Marks the next record to be read: the last one was processed.
     fn pass(&mut self)
         ensures { seen self.new ≡ unread_of (seen self.old) };
 
@@ -97,26 +97,26 @@ pub trait Side: Sized + Drop {
     fn dropped(&self) -> bool
         ensures { result ≡ (seen self.now).reader.dropped };
 
-    /// How many bytes were read of the magic and the records.
+    /// The number of bytes of the magic and the records that were read.
     fn offset(&self) -> u128
         ensures { result ≡ (seen self.now).reader.offset };
 
-    /// What is told where memory is wanted for the record that the side holds.
+    /// The fault `OutOfMemory` for the record that the side holds.
     fn wanted(&self) -> RecordFault
         ensures { result ≡ memory_for (seen self.now) };
 
-    /// The retirements that were read, but for those that it forgot.
+    /// The retirements that were read, without those that were forgotten.
     fn retired(&self) -> &Retirements
         ensures { result.now ≡ (seen self.now).reader.retired };
 
-    /// Whether one of these retirements, which both sides share or one has, covers the last record. Its slice is hashed
-    /// where a retirement of its key is among them, and it was not hashed before.
+    /// Whether one of these retirements, which are shared or of one side, covers the last record. Its slice is hashed
+    /// if one of them has its key, and it was not hashed before.
     fn covered_by(&mut self, shared: &Retirements, retired: &Retirements) -> bool
         ensures covered { IsRecord (seen self.old).reader.last
             → result ≡ is_covered (set_of (shared.now ++ retired.now)) (seen self.old).reader.last }
         ensures same { self.new ≡ self.old };
 
-    /// Forgets a retirement that is kept elsewhere, where it is the last that was read.
+    /// Forgets a retirement that is also kept elsewhere, if it is the last that was read.
     fn forget(&mut self, retirement: &[u8; RETIREMENT_LEN])
         ensures ahead { (seen self.new).ahead ≡ (seen self.old).ahead }
         ensures same { (seen self.new).reader
@@ -125,12 +125,12 @@ pub trait Side: Sized + Drop {
             ≡ set.insert (set_of (seen self.old).reader.retired) retirement.now };
 }
 
-/// A right side that is read from such a text.
+/// A right side that is read from such a source.
 pub trait ReadFrom<F>: Side {
-    // What is left of the text, where it is known.
+    // The rest of the source's text, if it is known.
     ghost left: { F → Option (List ℕ) };
 
-    // How often what gives it failed.
+    // The number of failures of the source.
     ghost failures: { F → ℕ };
 
     /// Reads the magic.
@@ -142,7 +142,7 @@ pub trait ReadFrom<F>: Side {
         ensures stops { IfErr result (StopsBeforeRecords (left text.old) (left text.new)) }
         ensures reader { FaultBlamesReader left failures text.old text.new result };
 
-    /// Reads on, where the last record had its turn. What it shares with the other side counts as its own.
+    /// Reads on, if the last record was processed. The retirements that it shares with the other side count as its own.
     fn read_on(&mut self, text: &mut F, shared: &Retirements) -> Result<(), RecordFault>
         requires archive { kind_of (Self.seen self.old).reader.file ≡ Archive }
         requires few { (Self.seen self.old).reader.count < 2 ^ 63 }

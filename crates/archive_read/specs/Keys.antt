@@ -1,4 +1,4 @@
--- Questions under keys, which are answered key by key.
+-- Queries by key, which are answered key by key.
 use Rattle.std.specs.Prelude.{ℕ, List, [], ◌∷◌, Option, Some, None}
 use Rattle.std.specs.Ordering.{nat_cmp}
 use Rattle.std.specs.Cmp.Lexicographic.{slice_cmp}
@@ -8,15 +8,15 @@ use Rattle.archive_core.specs.Key.{key_bytes}
 use Rattle.archive_core.specs.Content.{Operations}
 use Rattle.archive_core.specs.Find.{AreAnswering}
 
--- the keys stand in the order of their bytes, and may come several times
+-- the keys are in the order of their bytes, and may be repeated
 abbrev pub AreInOrder : List SliceKey → Type 0
 AreInOrder keys = IsSortedByKey key_bytes (slice_cmp nat_cmp) keys
 
--- the first of the keys, where there is one
+-- the first of the keys, if there is one
 abbrev pub first_key : List SliceKey → Option SliceKey
 first_key [] = None
 first_key (key ∷ keys) = Some key
 
--- the slices that answer under the key in the one content answer in the other one
+-- the slices that answer for the key are the same in both contents
 abbrev pub AnswersAs : SliceKey → Operations → Operations → Type 0
 AnswersAs key o p = (slices : List (List ℕ)) → AreAnswering o key slices → AreAnswering p key slices

@@ -1,4 +1,4 @@
--- The rows of two names that were found in archives that are read one after another.
+-- The rows of two names that were found in archives, which are read one after another.
 use Rattle.std.specs.Prelude.{◌≡◌, ◌↔◌, ◌⊎◌, ℕ, List, true, false, map, Contains}
 use Rattle.std.specs.FinSet as set
 use Rattle.archive_core.specs.Content.{Operations, is_admission}
@@ -6,8 +6,8 @@ use Rattle.archive_core.specs.Names.{IsNameRow, NameRecord, owned_name_view}
 use Rattle.archive_records.specs.Entry.{entry_bytes}
 use Rattle.archive_read.specs.declared.names.NamesFound.{NamesFound}
 
--- One content more was read: its rows of both names stand beside those before, in any order and with any repeats, and
--- so do the entries of its retirements, which are their records.
+-- One more content was read: its rows of both names were added to those before, in any order and with any repeats, and
+-- so were the entries of its retirements, which are their records.
 pub record AddsNames (o : Operations) (name other : List ℕ) (old new : NamesFound) : Type 0 where
   pub rows : (row : NameRecord) → Contains (map owned_name_view new.told.rows.items) row
       ↔ (Contains (map owned_name_view old.told.rows.items) row ⊎ IsNameRow o name row)

@@ -1,4 +1,4 @@
-//! An archive that is tested, of which nothing is kept.
+//! Tests an archive, and keeps nothing of it.
 
 ghost use Rattle.archive_records.specs.declared.kind.TextKind.TheVariants.{Archive};
 ghost use Rattle.archive_records.specs.Reading.{ReadsInPart};
@@ -7,7 +7,7 @@ use archive_records::{FromRecords, RecordFault, RecordReader, TextKind, read_ans
 use byte_device::Source;
 use memory::{Heap, NoMemory};
 
-/// What is kept of records that are only tested.
+/// The value of records that are only tested.
 #[derive(Drop)]
 struct Nothing;
 

@@ -1,4 +1,4 @@
-//! One pass over an archive of which slices are kept, none of them twice.
+//! One pass over an archive that keeps slices, each in one copy.
 
 ghost use Rattle.std.specs.Prelude.{◌≡◌, ◌∷◌, ◌++◌, ℕ, List, Option, [], None, OnOk, IfOk, IfErr};
 ghost use Rattle.std.specs.FinSet as set;
@@ -18,17 +18,17 @@ use archive_records::{NextRecord, RecordFault, RecordReader, TextKind};
 use byte_device::Source;
 use memory::{Heap, NoMemory};
 
-/// An archive that takes records, and the slice of the last one, which the archive takes later.
+/// An archive to which records are added, and the slice of the last one, which is added later.
 #[derive(Drop)]
 pub(crate) struct Kept<A> {
     pub(crate) archive: A,
-    /// The slice was taken out of the reader, and the next record is compared with it.
+    /// The slice was moved out of the reader, and the next record is compared with it.
     last: Option<Slice>,
 }
 
 impl<A: Archive> Kept<A> {
-    /// Takes the slice of the last record into the archive.
-    pub(crate) fn settle(&mut self) -> Result<(), NoMemory>
+    /// Adds the slice of the last record to the archive. Fails only if memory runs out.
+    pub(crate) fn add_last_slice(&mut self) -> Result<(), NoMemory>
         ensures kept { OnOk result
             (A.content self.new.archive ≡ with_last (A.content self.old.archive) self.old.last) }
         ensures none { OnOk result (self.new.last ≡ None) }
@@ -39,7 +39,7 @@ impl<A: Archive> Kept<A> {
         Ok(())
     }
 
-    /// Keeps the record that was read last. Its slice is taken out of the reader.
+    /// Keeps the record that was read last. Its slice is moved out of the reader.
     pub(crate) fn keep_last(
         &mut self,
         heap: &Heap,
@@ -61,12 +61,12 @@ impl<A: Archive> Kept<A> {
     }
 }
 
-/// What keeps some of the records of an archive, as they are read one after another.
+/// Selects records of an archive to keep, while they are read one after another.
 pub(crate) trait Keeper {
-    // By these records the first value became the second, and this content is kept of them.
+    // By these records the first value became the second, and this is the content of the records that were kept.
     ghost has_kept: { Self → List (List ℕ) → Operations → Self → Type 0 };
 
-    /// Keeps the record that was read last, where it is wanted. Refused for want of memory alone.
+    /// Keeps the record that was read last, if it is selected. Fails only if memory runs out.
     fn keep<A: Archive + Drop>(
         &mut self,
         heap: &Heap,
@@ -83,14 +83,14 @@ pub(crate) trait Keeper {
         ensures taken { OnOk result (after_taken kept.new.last reader.new ≡ reader.old) };
 }
 
-/// A keeper, and what it has kept.
+/// A keeper, and the archive that it has kept.
 #[derive(Drop)]
 pub(crate) struct Keeping<A, K> {
     pub(crate) kept: Kept<A>,
     pub(crate) keeper: K,
 }
 
-/// Keeps records of an archive up to what ends it, but none of those that are dropped.
+/// Keeps records of an archive up to its end, without those that are dropped.
 fn keep_records<A: Archive + Drop, K: Keeper, R: Source>(
     keeping: &mut Keeping<A, K>,
     heap: &Heap,
@@ -115,7 +115,7 @@ fn keep_records<A: Archive + Drop, K: Keeper, R: Source>(
             Ok(NextRecord::Item(_)) => {}
             Err(fault) => return Err(fault),
         }
-        if let Err(NoMemory) = keeping.kept.settle() {
+        if let Err(NoMemory) = keeping.kept.add_last_slice() {
             return Err(RecordFault::out_of_memory(offset));
         }
         if reader.dropped() {
@@ -127,7 +127,7 @@ fn keep_records<A: Archive + Drop, K: Keeper, R: Source>(
     }
 }
 
-/// Reads the text of an archive from the front of the input, and keeps records of it, with the reader that did so.
+/// Reads the text of an archive from the front of the input, keeps records of it, and returns the reader too.
 fn keep_front<A: Archive + Drop, K: Keeper + Drop, R: Source>(
     heap: &Heap,
     keeper: K,

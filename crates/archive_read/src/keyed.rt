@@ -1,4 +1,4 @@
-//! Questions under keys, answered in one pass over an archive.
+//! Answers queries by key in one pass over an archive.
 
 ghost use Rattle.std.specs.Prelude.{◌≡◌, [], ⊤, ℕ, List, Some, OnOk, IfOk, drop, false, length, if◌then◌else◌};
 ghost use Rattle.std.specs.Prelude.{option_map};
@@ -20,20 +20,20 @@ use archive_records::{MAGIC_LEN, RecordFault, RecordReader, key_prefix};
 use byte_device::Source;
 use memory::{Heap, NoMemory};
 
-/// Questions to a content, each under a key, which are answered one after another.
+/// Queries on a content, each with a key, which are answered one after another.
 pub trait Questions {
-    // The keys of the questions that are left, in the order in which these are answered.
+    // The keys of the queries that are left, in the order in which these are answered.
     ghost left: { Self → List SliceKey };
 
-    // The first value became the second by answers of this content.
+    // The first value became the second by the answers of this content.
     ghost answered: { Self → Operations → Self → Type 0 };
 
-    /// The key of the next question; none where no question is left.
+    /// The key of the next query; none if no query is left.
     fn next_key(&self) -> Option<SliceKey>
         ensures { result ≡ first_key (left self.now) };
 
-    /// Answers the next question, where one is left, by an archive that answers under its key. Refused for want of
-    /// memory alone.
+    /// Answers the next query, if one is left, from an archive that has the answer for its key. Fails only if memory
+    /// runs out.
     fn answer<A: Archive>(&mut self, archive: &A) -> Result<(), NoMemory>
         ensures left { OnOk result (left self.new ≡ drop 1 (left self.old)) }
         ensures answered { OnOk result ((start : Self) (o : Operations)
@@ -41,7 +41,7 @@ pub trait Questions {
             → answered start o self.old → answered start o self.new) };
 }
 
-/// Whether the next question is under the key of these bytes.
+/// Whether the next query has the key of these bytes.
 fn is_next<Q: Questions>(questions: &Q, prefix: &[u8]) -> bool
     ensures { result ≡ is_first prefix.now (Q.left questions.now) }
 {
@@ -51,7 +51,7 @@ fn is_next<Q: Questions>(questions: &Q, prefix: &[u8]) -> bool
     }
 }
 
-/// Whether the key is below that of these bytes; where there are none, each is.
+/// Whether the key is below that of these bytes; without bytes, each key is.
 fn is_passed(key: &SliceKey, prefix: Option<&[u8]>) -> bool
     ensures passed { result ≡ is_passed key.now (option_map (λ bytes. bytes.now) prefix.entry) }
     ensures long { length (key_bytes key.now) ≡ 24 }
@@ -63,7 +63,7 @@ fn is_passed(key: &SliceKey, prefix: Option<&[u8]>) -> bool
     }
 }
 
-/// Answers the next question by what is held. Nothing is held then where the one after it is under another key.
+/// Answers the next query from the slices that are held. They are dropped if the query after it has another key.
 fn answer_next<A: Archive + Drop, Q: Questions>(
     held: &mut A,
     questions: &mut Q,
@@ -84,8 +84,7 @@ fn answer_next<A: Archive + Drop, Q: Questions>(
     Ok(())
 }
 
-/// Answers the questions under keys below that of these bytes, and where there are none, all: no slice under such a key
-/// is after those that came.
+/// Answers the queries with keys below that of these bytes, or all without bytes: no slice with such a key follows.
 fn answer_passed<A: Archive + Drop, Q: Questions>(
     held: &mut A,
     questions: &mut Q,
@@ -109,7 +108,7 @@ fn answer_passed<A: Archive + Drop, Q: Questions>(
     Ok(())
 }
 
-/// Questions, for the next of which slices are held.
+/// Queries; the slices for the next one are held.
 #[derive(Drop)]
 struct Asked<Q>(Q);
 
@@ -138,7 +137,7 @@ impl<Q: Questions> Keeper for Asked<Q> {
     }
 }
 
-/// Answers the questions that are left where no record is.
+/// Answers the queries that are left after the last record.
 fn answer_rest<A: Archive + Drop, Q: Questions + Drop>(
     asked: Keeping<A, Asked<Q>>,
     heap: &Heap,
@@ -149,16 +148,16 @@ fn answer_rest<A: Archive + Drop, Q: Questions + Drop>(
         → (Q.left told ≡ []) × Q.answered start o told) }
 {
     let mut rest = asked;
-    rest.kept.settle()?;
+    rest.kept.add_last_slice()?;
     answer_passed(&mut rest.kept.archive, &mut rest.keeper.0, heap, None)?;
     Ok(rest.keeper.0)
 }
 
-/// Reads an archive, and answers questions by its content: the whole input is read and tested as by
-/// [`crate::read_archive`], in the memory of the slices under one of the keys, of one other record and of 57 bytes for
+/// Reads an archive, and answers queries from its content: the whole input is read and tested like by
+/// [`crate::read_archive`], in the memory of the slices with one of the keys, of one other record and of 57 bytes for
 /// each retirement. Slices that are held are not copied.
 ///
-/// The questions come in the order of their keys, as the slices do.
+/// The queries are in the order of their keys, as the slices are.
 pub fn answer_by_key<A: Archive + Drop, Q: Questions + Drop, R: Source>(
     heap: Heap,
     questions: Q,

@@ -1,24 +1,23 @@
-//! What is made of the records of a text: an archive, a part of one, answers, rows, names, a summary.
+//! The results that are built from the records of a text: an archive, a part of one, answers, rows, names, a summary.
 //!
-//! - `keeping`: one pass over an archive of which slices are kept;
-//! - `reading`, `part`: [`read_archive`], [`read_front`] and [`read_part`], of which a part is kept;
-//! - `keyed`: [`answer_by_key`], questions under keys, in the memory of the slices under one of them;
-//! - `names`: [`read_names`], where symbols of two names stand, and [`gather_names`], the same of several archives, of
-//!   which no slice is kept;
+//! - `keeping`: one pass over an archive that keeps slices;
+//! - `reading`, `part`: [`read_archive`], [`read_front`], and [`read_part`], which keeps a part;
+//! - `keyed`: [`answer_by_key`], which answers queries by key, in the memory of the slices with one key;
+//! - `names`: [`read_names`], the rows of two names, and [`gather_names`], the same for several archives; no slice is
+//!   kept;
 //! - `operations`: [`read_ops`];
-//! - `rows`, `summarizing`: [`list_rows`] and [`summarize`], what an archive tells record by record, of which no slice
-//!   is kept;
-//! - `checking`: [`test_archive`], of which nothing is kept.
+//! - `rows`, `summarizing`: [`list_rows`] and [`summarize`], record by record; no slice is kept;
+//! - `checking`: [`test_archive`], which keeps nothing.
 //!
 //! # Why it is so
 //!
-//! - Each reads an input and tests it as [`read_archive`] does, whatever the pieces in which the reader gives its
-//!   bytes, and refuses it for the same faults, in the same order and with the same offsets. A fault leaves nothing,
-//!   and how much of a faulty input was read is not promised.
-//! - Questions are answered key by key, as the records under each come.
+//! - Each reads an input and tests it like [`read_archive`], whatever the sizes of the reader's pieces, and refuses it
+//!   for the same faults, in the same order and with the same offsets. After a fault there is no result, and it is not
+//!   specified how much of the input was read.
+//! - Queries are answered key by key, as the records with each key are read.
 //! - [`read_names`] hashes a slice only if it has the name.
-//! - A slice that is kept is taken out of the reader without a copy, and the last one is aside until the next record
-//!   was compared with it.
+//! - A slice that is kept is moved out of the reader without a copy, and the last one is set aside until the next
+//!   record was compared with it.
 #![tactic(auto)]
 
 mod checking;

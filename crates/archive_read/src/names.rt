@@ -1,4 +1,4 @@
-//! Where symbols of two names stand, told record by record in one pass.
+//! The rows of two names, record by record in one pass.
 
 ghost use Rattle.std.specs.Prelude.{◌≡◌, ◌↔◌, ◌++◌, [], map, Contains, OnOk, false};
 ghost use Rattle.std.specs.FinSet as set;
@@ -40,7 +40,7 @@ fn push_rows(
     Ok(())
 }
 
-/// Adds the rows of a name in what a record admits. A slice without the name is not hashed.
+/// Adds the rows of a name in the slice of a record. A slice without the name is not hashed.
 fn push_names(
     rows: &mut Vec<OwnedNameRow, Heap>,
     heap: &Heap,
@@ -60,7 +60,7 @@ fn push_names(
     push_rows(rows, heap, slice, name)
 }
 
-/// Puts rows in order, and leaves each once.
+/// Sorts the rows, and keeps each once.
 fn put_names_in_order(rows: &mut Vec<OwnedNameRow, Heap>)
     ensures ascending { IsStrictlySortedBy name_cmp (map owned_name_view rows.new.items) }
     ensures same { (row : NameRecord) → Contains (map owned_name_view rows.new.items) row
@@ -70,21 +70,21 @@ fn put_names_in_order(rows: &mut Vec<OwnedNameRow, Heap>)
     rows.dedup_by(|a, b| a.lend().compare(&b.lend()).is_eq());
 }
 
-/// Two names that are sought in one pass.
+/// Two names that are searched for in one pass.
 #[derive(Clone, Copy)]
 pub struct SoughtNames<'n> {
     pub name: &'n [u8],
     pub other: &'n [u8],
 }
 
-/// The rows of both.
+/// The rows of both names.
 #[derive(Drop)]
 pub struct NamesTold {
     pub rows: Vec<OwnedNameRow, Heap>,
     pub others: Vec<OwnedNameRow, Heap>,
 }
 
-/// The rows of two names, as the records come that tell them.
+/// The rows of two names, while records are read.
 #[derive(Drop)]
 struct NameRows<'n> {
     told: NamesTold,
@@ -131,10 +131,10 @@ impl<'n> FromRecords for NameRows<'n> {
     }
 }
 
-/// Reads an archive, and gives a row for each place where a symbol of one of the names stands in a live slice, as
-/// [`archive_core::Archive::find_name`] gives them of one that is held, in the same order. The whole input is read and
-/// tested as by [`crate::read_archive`], in the memory of the rows, of one record and of 57 bytes for each retirement.
-/// A slice is hashed only where it has a name. No name has a NUL at its end.
+/// Reads an archive, and returns a row for each symbol with one of the names in a live slice, like
+/// [`archive_core::Archive::find_name`] for an archive in memory, in the same order. The whole input is read and tested
+/// like by [`crate::read_archive`], in the memory of the rows, of one record and of 57 bytes for each retirement. A
+/// slice is hashed only if it has a name. No name ends with a NUL.
 pub fn read_names<R: Source>(
     heap: Heap,
     none: NamesTold,
@@ -153,16 +153,16 @@ pub fn read_names<R: Source>(
     read_answer::<NameRows<'_>, R>(&heap, TextKind::Archive, start, r)
 }
 
-/// What is told of two names in archives so far, of which none is kept.
+/// The results for two names in the archives so far, none of which is kept.
 #[derive(Drop)]
 pub struct NamesFound {
     /// Rows of the names, in any order and with any repeats.
     pub told: NamesTold,
-    /// The entries of what the archives retire.
+    /// The entries of the archives' retirements.
     pub retired: Vec<Entry, Heap>,
 }
 
-/// What is told of two names, as the records come that tell it.
+/// The results for two names, while records are read.
 #[derive(Drop)]
 struct Gathering<'n> {
     found: NamesFound,
@@ -213,9 +213,9 @@ impl<'n> FromRecords for Gathering<'n> {
     }
 }
 
-/// Reads an archive, and adds what its join with others needs of it to tell the names: its rows of them, and what it
-/// retires. The whole input is read and tested as by [`crate::read_archive`], in the memory of the rows, of one record
-/// and twice of 57 bytes for each retirement. A slice is hashed only where it has a name. No name has a NUL at its end.
+/// Reads an archive, and adds to the results what its join with other archives needs: its rows of the names, and its
+/// retirements. The whole input is read and tested like by [`crate::read_archive`], in the memory of the rows, of one
+/// record and of twice 57 bytes for each retirement. A slice is hashed only if it has a name. No name ends with a NUL.
 pub fn gather_names<R: Source>(
     heap: Heap,
     found: NamesFound,
@@ -232,7 +232,7 @@ pub fn gather_names<R: Source>(
     read_answer::<Gathering<'_>, R>(&heap, TextKind::Archive, start, r)
 }
 
-/// Leaves the rows whose slices are not retired, in the order of [`read_names`], each once.
+/// Keeps the rows whose slices are not retired, in the order of [`read_names`], each once.
 fn keep_live(rows: &mut Vec<OwnedNameRow, Heap>, retired: &Summary)
     ensures ascending { IsStrictlySortedBy name_cmp (map owned_name_view rows.new.items) }
     ensures live { (row : NameRecord) → Contains (map owned_name_view rows.new.items) row

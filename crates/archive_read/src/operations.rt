@@ -1,4 +1,4 @@
-//! Operations files that are read from a source.
+//! Reads operations files from a source.
 
 ghost use Rattle.archive_records.specs.declared.kind.TextKind.TheVariants.{Operations};
 ghost use Rattle.archive_records.specs.Reading.{ReadsWhole};
@@ -47,8 +47,8 @@ impl FromRecords for Listed {
 ///
 /// # Errors
 ///
-/// None is NotAscending, BadCount, Trailing or Covered: such a file has no order and no end record, the tag 3 is
-/// BadTag, and an admission may stand beside the retirement of its slice.
+/// None of them is NotAscending, BadCount, Trailing or Covered: such a file has no order and no end record, the tag 3
+/// is BadTag, and a file may have both an admission and the retirement of its slice.
 pub fn read_ops<R: Source>(heap: Heap, r: &mut R) -> Result<Vec<Operation, Heap>, RecordFault>
     ensures { ReadsWhole Operations (λ operations. operations.items) R.left R.failures r.old r.new result }
 {

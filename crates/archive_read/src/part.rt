@@ -1,4 +1,4 @@
-//! Archives of which a part is kept.
+//! Reads archives and keeps a part of them.
 
 ghost use Rattle.std.specs.Prelude.{◌≡◌, ℕ, List, Bool};
 ghost use Rattle.archive_core.specs.Record.{IsRecord};
@@ -12,7 +12,7 @@ use archive_records::{MAGIC_LEN, RecordFault, RecordReader};
 use byte_device::Source;
 use memory::{Heap, NoMemory};
 
-/// Which records are kept.
+/// The records that are kept.
 pub trait Selects {
     ghost picked: { Self → List ℕ → Bool };
 
@@ -22,7 +22,7 @@ pub trait Selects {
         ensures { result ≡ picked self.now bytes.now };
 }
 
-/// The records whose bytes after the tag begin with these: those under a UUID, or under a key.
+/// The records whose bytes after the tag begin with this prefix: those with a UUID, or with a key.
 #[derive(Clone, Copy)]
 pub struct Under<'a>(pub &'a [u8]);
 
@@ -36,7 +36,7 @@ impl<'a> Selects for Under<'a> {
     }
 }
 
-/// What keeps the records that are picked.
+/// Keeps the records that are picked.
 #[derive(Drop)]
 struct Picked<'a, S>(&'a S);
 
@@ -61,9 +61,9 @@ impl<'a, S: Selects> Keeper for Picked<'a, S> {
     }
 }
 
-/// Reads an archive, and keeps the records that are picked: the whole input is read and tested as by
-/// [`crate::read_archive`], and what is kept is a part of the content that this gives, in the memory of that part, of
-/// one record that is not picked and of 57 bytes for each retirement. Slices that are picked are not copied.
+/// Reads an archive, and keeps the records that are picked: the whole input is read and tested like by
+/// [`crate::read_archive`], and the result is a part of the content that it returns, in the memory of that part, of one
+/// record that is not picked and of 57 bytes for each retirement. Slices that are picked are not copied.
 pub fn read_part<A: Archive + Drop, S: Selects, R: Source>(
     heap: Heap,
     select: &S,
@@ -73,7 +73,7 @@ pub fn read_part<A: Archive + Drop, S: Selects, R: Source>(
         R.left R.failures r.old r.new result }
 {
     let mut picked = keep_whole::<A, Picked<'_, S>, R>(&heap, Picked(select), r)?;
-    match picked.kept.settle() {
+    match picked.kept.add_last_slice() {
         Ok(()) => Ok(picked.kept.archive),
         Err(NoMemory) => Err(RecordFault::out_of_memory(MAGIC_LEN)),
     }

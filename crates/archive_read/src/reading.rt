@@ -1,4 +1,4 @@
-//! Archives that are read from a source.
+//! Reads archives from a source.
 
 ghost use Rattle.std.specs.Prelude.{◌≡◌, OnOk};
 ghost use Rattle.archive_core.specs.Record.{borrowed_bytes};
@@ -11,7 +11,7 @@ use archive_records::{FromRecords, RecordFault, RecordReader, TextKind, read_ans
 use byte_device::Source;
 use memory::{Heap, NoMemory};
 
-/// Takes the operation of a record.
+/// Adds the operation of a record.
 pub(crate) fn take_record<A: Archive>(
     archive: &mut A,
     heap: &Heap,
@@ -24,7 +24,7 @@ pub(crate) fn take_record<A: Archive>(
     Ok(())
 }
 
-/// An archive that is made of its records.
+/// An archive that is built from its records.
 #[derive(Drop)]
 struct Whole<A>(A);
 
@@ -56,26 +56,26 @@ impl<A: Archive> FromRecords for Whole<A> {
     }
 }
 
-/// Reads an archive: the whole input is the one text of its content, or one of version 1 whose operations make this
-/// content, and of which the covered slices are dropped.
+/// Reads an archive: the whole input is the one text of its content, or a text of version 1 whose operations have this
+/// content; its covered slices are dropped.
 ///
 /// # Errors
 ///
 /// Each kind of `RecordFaultKind`; within a record they are found in the order of its tests: BadTag, Truncated inside
 /// the head, TooLarge, Truncated inside the slice, NotAscending, BadSlice, KeyMismatch, and in version 2 Covered; for
-/// an end record Truncated, BadCount, Trailing. What is dropped passes the same tests, and the end record counts it.
-/// Truncated comes only where the reader told its end, Device where it failed, and everything else where it did not.
-/// Device and OutOfMemory come only where what was read decides no fault: it has fewer bytes than a magic, or no other
-/// fault than that it ends too early. The offset of Device is the length of the longest good front of what was read,
-/// that of OutOfMemory the length of a good front; both are 0 before the magic was read.
+/// an end record Truncated, BadCount, Trailing. Dropped records pass the same tests, and the end record counts them.
+/// Truncated is returned only if the reader reported its end, Device if it failed, and every other fault if it did not.
+/// Device and OutOfMemory are returned only if the bytes that were read decide no fault: they are fewer than in a
+/// magic, or have no other fault than that they end too early. The offset of Device is the length of the longest good
+/// front of these bytes, that of OutOfMemory the length of a good front; both are 0 before the magic was read.
 pub fn read_archive<A: Archive + Drop, R: Source>(heap: Heap, r: &mut R) -> Result<A, RecordFault>
     ensures { ReadsWhole Archive A.content R.left R.failures r.old r.new result }
 {
     read_answer::<Whole<A>, R>(&heap, TextKind::Archive, (), r)
 }
 
-/// Reads an archive from the front of the input: exactly the bytes of a text that gives it, of either version, and
-/// what stands after them is left for who reads on: no fault is Trailing.
+/// Reads an archive from the front of the input: exactly the bytes of a text with its content, of either version. The
+/// bytes after them are left for the next reader, so no fault is Trailing.
 pub fn read_front<A: Archive + Drop, R: Source>(heap: Heap, r: &mut R) -> Result<A, RecordFault>
     ensures { ReadsFront Archive A.content R.left R.failures r.old r.new result }
 {

@@ -1,4 +1,4 @@
-//! What a list of an archive tells, record by record.
+//! The rows of an archive's list, record by record.
 
 ghost use Rattle.std.specs.Prelude.{OnOk};
 ghost use Rattle.join_core.specs.Listing.{listing};
@@ -13,7 +13,8 @@ use archive_records::{FromRecords, RecordFault, RecordReader, TextKind, read_ans
 use byte_device::Source;
 use memory::{Heap, NoMemory};
 
-/// Puts rows that come in the order of their records in that of a list: by key, and those of a key as they came.
+/// Sorts rows that are in the order of their records into that of a list: by key, and for a key as before. Fails only
+/// if memory runs out.
 fn put_rows_in_order(rows: &mut Vec<FindRow, Heap>) -> Result<(), NoMemory>
     ensures { OnOk result ((o : Operations) → IsContent o → AreRowsOf (listing o) rows.old.items
         → IsList o rows.new.items) }
@@ -57,9 +58,10 @@ impl FromRecords for Rows {
     }
 }
 
-/// Reads an archive, and gives a row for each of its retirements and its live slices: by UUID, then by `cputype` and
-/// `cpusubtype`, then in the order of their records. The whole input is read and tested as by [`crate::read_archive`],
-/// in the memory of the rows, of one record and of 57 bytes for each retirement. Each slice is hashed where it is read.
+/// Reads an archive, and returns a row for each of its retirements and its live slices: by UUID, then by `cputype` and
+/// `cpusubtype`, then in the order of their records. The whole input is read and tested like by
+/// [`crate::read_archive`], in the memory of the rows, of one record and of 57 bytes for each retirement. Each slice is
+/// hashed when it is read.
 pub fn list_rows<R: Source>(heap: Heap, r: &mut R) -> Result<Vec<FindRow, Heap>, RecordFault>
     ensures { ReadsInPart Archive (λ rows o. IsList o rows.items) R.left R.failures r.old r.new result }
 {

@@ -45,9 +45,9 @@ impl FromRecords for Entries {
     }
 }
 
-/// Reads an archive, and gives the summary of its content. The whole input is read and tested as by
+/// Reads an archive, and returns the summary of its content. The whole input is read and tested like by
 /// [`crate::read_archive`], in the memory of the summary, of one record and of 57 bytes for each retirement. Each slice
-/// is hashed where it is read.
+/// is hashed when it is read.
 pub fn summarize<R: Source>(heap: Heap, r: &mut R) -> Result<Summary, RecordFault>
     ensures { ReadsInPart Archive (λ made o. made ≡ summary o) R.left R.failures r.old r.new result }
 {

@@ -35,7 +35,7 @@ use Rattle.archive_records.proofs.Contents.{sorted-InOrder, sorted-entries, InOr
 use Rattle.archive_records.proofs.Contents.{summary_text_is, summary_text-entries, content_is as set_is}
 use Rattle.archive_records.proofs.FaultKinds.{as_itself}
 use Rattle.archive_records.proofs.Undecided.{no_machine}
-use Rattle.archive_records.proofs.Listed.{InOrder-operations, IsOperationsText-text, text_is, one_list}
+use Rattle.archive_records.proofs.OperationRecords.{InOrder-operations, IsOperationsText-text, text_is, one_list}
 use Rattle.archive_records.proofs.Exact.{fails_stop, no_magic_fault, no_fault, no_fault_behind, one_text}
 use Rattle.archive_records.proofs.Formats.{in_order_old, format_read, kind_read, summary_form}
 use Rattle.archive_records.proofs.Versions.{Formed, formed, formed_content, formed_text, formed_format, no_operations}

@@ -17,7 +17,7 @@ pub mod Grown
 pub mod FaultKinds
 pub mod Undecided
 pub mod RecordSteps
-pub mod Listed
+pub mod OperationRecords
 pub mod Contents
 pub mod Summarised
 pub mod Magics
@@ -26,6 +26,6 @@ pub mod Exact
 pub mod Versions
 pub mod Inputs
 pub mod Ascending
-pub mod Taken
+pub mod TakenRecords
 pub mod Blamed
 pub mod Gathered

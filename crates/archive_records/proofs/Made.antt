@@ -24,7 +24,7 @@ use Rattle.archive_records.proofs.Undecided.{cut_text}
 use Rattle.archive_records.proofs.Contents.{sorted-InOrder, sorted-entries, AreEntries-entries}
 use Rattle.archive_records.proofs.Formats.{in_order_old, operations_form, summary_form}
 use Rattle.archive_records.proofs.Inputs.{IsReadTo, IsReadTo-content, IsReadAs, read_whole, refused}
-use Rattle.archive_records.proofs.Listed.{operations_in}
+use Rattle.archive_records.proofs.OperationRecords.{operations_in}
 use Rattle.archive_records.proofs.Versions.{kept_set, kept_records}
 
 -- the records that are taken are those of their content

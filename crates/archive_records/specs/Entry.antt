@@ -1,4 +1,4 @@
--- Entries: the parts of a summary for the operations of a content.
+-- The entries of a summary, one for each operation of a content.
 use Rattle.std.specs.Prelude.{◌≡◌, ℕ, List, ◌∷◌, ◌++◌, length, slice_index, true, ◌⊎◌}
 use Rattle.std.specs.FinSet as set
 use Rattle.archive_core.specs.Key.{key_bytes}
@@ -11,8 +11,7 @@ abbrev pub entry_bytes : Entry → List ℕ
 entry_bytes (Retirement key digest) = 1 ∷ (key_bytes key ++ digest.0)
 entry_bytes (Admission key digest) = 2 ∷ (key_bytes key ++ digest.0)
 
--- these bytes are an entry: the tag of a retirement, 1, or of an admission, 2, and after it the 56 bytes of a key and
--- a digest
+-- the bytes are an entry: tag 1 for a retirement or tag 2 for an admission, then the 56 bytes of a key and a digest
 pub record IsEntry (bytes : List ℕ) : Type 0 where
   pub tag : (slice_index bytes 0 ≡ 1) ⊎ (slice_index bytes 0 ≡ 2)
   pub long : length bytes ≡ 57

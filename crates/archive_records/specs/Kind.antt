@@ -1,4 +1,4 @@
--- The formats of files: how each begins, its records, how they follow one another, and how it ends.
+-- The formats of files: the magic of each, its records, their order, and its end.
 use Rattle.std.specs.Prelude.{ℕ, Bool, true, List, [], ◌∷◌, ◌==◌, if◌then◌else◌, slice_index, Option, Some, None}
 use Rattle.std.specs.declared.cmp.Ordering.{Ordering}
 use Rattle.std.specs.Ordering.{is_lt, nat_cmp}
@@ -34,48 +34,48 @@ magic_of OldArchive = old_magic
 magic_of Operations = operations_magic
 magic_of Summary = summary_magic
 
--- how long the head of an admission is; an entry is a head alone
+-- the length of an admission's head; an entry is only a head
 abbrev pub admission_length : Format → ℕ
 admission_length Summary = 57
 admission_length _ = 33
 
--- how long an end record is; an operations file has none
+-- the length of an end record; an operations file has none
 abbrev pub end_length : Format → Option ℕ
 end_length Operations = None
 end_length _ = Some 9
 
--- whether a record may stand after one that compares so with it: those of an archive and entries ascend, operations
--- come in any order
+-- whether a record may follow one that compares with it by this order: the records of an archive and the entries of a
+-- summary ascend, operations have any order
 unfoldable pub allows : Format → Ordering → Bool
 allows Operations order = true
 allows _ order = is_lt order
 
--- whether the second may stand after the first
+-- whether the second record may follow the first
 unfoldable pub may_follow : Format → List ℕ → List ℕ → Bool
 may_follow file a b = allows file (slice_cmp nat_cmp a b)
 
--- what a file of this format is
+-- the kind of a file of this format
 abbrev pub kind_of : Format → TextKind
 kind_of Archive = Archive_text
 kind_of OldArchive = Archive_text
 kind_of Operations = Operations_text
 kind_of Summary = Summary_text
 
--- what stands between the magic and what ends such a file: records of operations, or entries
+-- the items between the magic and the end of such a file: records of operations, or entries
 abbrev pub IsItemOf : TextKind → List ℕ → Type 0
 IsItemOf Summary_text item = IsEntry item
 IsItemOf _ item = IsRecord item
 
--- the same of a file of this format
+-- the same for a file of this format
 abbrev pub IsItem : Format → List ℕ → Type 0
 IsItem file item = IsItemOf (kind_of file) item
 
--- the format in which bytes are read that should be an archive's: the eighth of them tells its version, and where it is
--- not that of the first, the second is meant
+-- the format by which a text that should be an archive's is read: the eighth byte is its version; any other byte than
+-- that of version 1 means version 2
 unfoldable pub archive_format : List ℕ → Format
 archive_format text = if slice_index text 7 == 0x31 then OldArchive else Archive
 
--- the format in which bytes are read that should be of this kind
+-- the format by which a text that should be of this kind is read
 abbrev pub format_for : TextKind → List ℕ → Format
 format_for Archive_text text = archive_format text
 format_for Operations_text text = Operations

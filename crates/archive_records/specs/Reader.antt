@@ -1,5 +1,5 @@
--- Records that are read from a source one over the other: the words of the inner functions, and of the methods of
--- `RecordReader`.
+-- Records that are read from a source into one buffer, each over the last: the terms of the inner functions, and of
+-- those that read record by record, such as `RecordReader` and `FromRecords`.
 use Rattle.std.specs.Prelude.{◌≡◌, ◌≢◌, ℕ, ◌+◌, ◌*◌, ◌^◌, ◌<◌, ◌≤◌, Bool, true, false, List, [], ◌∷◌, ◌++◌, length}
 use Rattle.std.specs.Prelude.{take, drop, Option, Some, None, Result, Ok, Err, MatchResult, ◌⊎◌, ◌==◌, ◌&&◌}
 use Rattle.std.specs.Prelude.{if◌then◌else◌, slice_index}
@@ -37,18 +37,18 @@ use Rattle.archive_records.specs.Fault.{IsCutAtMost, IsOfText}
 use Rattle.archive_records.specs.Front.{front_length}
 use Rattle.archive_records.specs.Reading.{Blames, IsOfMachine}
 
--- the bytes of the next record that came
+-- the bytes of the next record that were read
 abbrev pub bytes_so_far : Buffer → List ℕ
 bytes_so_far b = take b.at b.bytes.items
 
--- The order is that of the last record's front and what came, and as long as these are the same the rest of the last
--- record stands after them.
+-- The order compares the front of the last record with the bytes that were read; while these are equal, the rest of the
+-- last record follows them in the buffer.
 pub record Over (last : List ℕ) (b : Buffer) : Type 0 where
   pub rest : b.order ≡ Equal → drop b.at b.bytes.items ≡ drop b.at last
   pub order : b.order ≡ slice_cmp nat_cmp (take b.at last) (bytes_so_far b)
 
--- The buffer grew by the bytes that were taken from the source, has them all, and stands over each last record that it
--- stood over.
+-- The buffer grew by the bytes that were consumed from the source and holds them all; if it was over a last record
+-- before, it still is.
 pub record Fills (left_old left_new : Option (List ℕ)) (old new : Buffer) : Type 0 where
   pub within : new.at ≤ length new.bytes.items
   pub more : List ℕ
@@ -56,63 +56,63 @@ pub record Fills (left_old left_new : Option (List ℕ)) (old new : Buffer) : Ty
   pub taken : Consumes left_old left_new more
   pub over : (last : List ℕ) → Over last old → Over last new
 
--- This many bytes more came, and `most` at most: none only where the source is at its end, or none was wanted.
+-- This number of bytes was added, at most `most`: zero only if the source is at its end, or if `most` is zero.
 pub record IsPiece (most : ℕ) (left : Option (List ℕ)) (old new : Buffer) (count : ℕ) : Type 0 where
   pub at_is : new.at ≡ old.at + count
   pub bound : count ≤ most
   pub end : count ≡ 0 → 0 < most → IsAtEnd left
 
--- What came of pulling a piece of a record, of `most` bytes at most, into a buffer.
+-- The result of pulling a piece of a record, of at most `most` bytes, into a buffer.
 pub record Pulls {R : Type 0} (left : R → Option (List ℕ)) (failures : R → ℕ) (old new : R) (before after : Buffer)
     (most : ℕ) (result : Result ℕ Failed) : Type 0 where
   pub fills : Fills (left old) (left new) before after
   pub piece : MatchResult result (IsPiece most (left new) before after) (λ _. after.at ≡ before.at)
   pub count : CountsFailure (failures old) (failures new) result
 
--- What a fault says of the bytes that came: a device that failed, and want of memory, leave a part of a record.
+-- The fault that the bytes read so far have: after a failed device and after `OutOfMemory` they are a part of a record.
 abbrev pub seen_as : RecordFaultKind → RecordFaultKind
 seen_as Device = Truncated
 seen_as OutOfMemory = Truncated
 seen_as kind = kind
 
--- What a result says of the reader: on success it did not fail, and else what the fault says.
+-- The state of the reader after a result: after a success it did not fail, after a fault the fault says whether it did.
 abbrev pub BlamesReader : {R T : Type 0} → (R → Option (List ℕ)) → (R → ℕ) → R → R → Result T RecordFaultKind → Type 0
 BlamesReader left failures old new result =
     MatchResult result (λ _. failures new ≡ failures old) (Blames left failures old new)
 
--- the same of a fault with its offset
+-- the same for a fault with its offset
 abbrev pub FaultBlamesReader : {R T : Type 0} → (R → Option (List ℕ)) → (R → ℕ) → R → R → Result T RecordFault → Type 0
 FaultBlamesReader left failures old new result =
     MatchResult result (λ _. failures new ≡ failures old) (λ fault. Blames left failures old new fault.kind)
 
--- The head of a record of such a file came, and nothing after it: it is this long.
+-- The buffer holds the head of a record of such a file, and nothing after it: it has this length.
 pub record IsHead (file : Format) (buffer : Buffer) (head : ℕ) : Type 0 where
   pub tag : head_length file (slice_index (bytes_so_far buffer) 0) ≡ Some head
   pub at_is : buffer.at ≡ head
   pub long : 8 < head
 
--- why the magic was not read, and the bytes that came instead
+-- why the magic was not read, with the bytes that were read instead
 abbrev pub StopsInMagic : Format → List ℕ → RecordFaultKind → Type 0
 StopsInMagic file bytes kind =
     IsMagicFault file bytes kind
     ⊎ ((kind ≡ Device) × (length bytes < 8))
     ⊎ ((kind ≡ OutOfMemory) × (length bytes < 8))
 
--- the same of each format of the kind, so of the one in which the bytes are read
+-- the same for each format of the kind, so for the one by which the bytes are read
 abbrev pub StopsInMagicOf : TextKind → List ℕ → RecordFaultKind → Type 0
 StopsInMagicOf file bytes kind = (format : Format) → kind_of format ≡ file → StopsInMagic format bytes kind
 
--- what was found out of a record: a retirement has no slice, and that of an admission was checked
+-- the facts of a record: a retirement has no slice, and the slice of an admission was checked
 abbrev pub IsFound : List ℕ → Option SliceFacts → Type 0
 IsFound bytes None = Retires bytes
 IsFound bytes (Some facts) = Admits bytes × IsCheckedOf (drop 33 bytes) facts
 
--- the same of what was read last, where that is a record
+-- the same for the bytes that were read last, if they are a record
 abbrev pub IsFoundOfLast : List ℕ → Option SliceFacts → Type 0
 IsFoundOfLast last None = IsRecord last → Retires last
 IsFoundOfLast last (Some facts) = IsFound last (Some facts)
 
--- the same of an item of such a file; an entry has no slice
+-- the same for an item of such a file; an entry has no slice
 abbrev pub IsFoundIn : TextKind → List ℕ → Option SliceFacts → Type 0
 IsFoundIn Summary_text item found = IsEntry item × (found ≡ None)
 IsFoundIn _ item found = IsFound item found
@@ -122,29 +122,29 @@ abbrev pub IsEnded : Format → Option (List ℕ) → Type 0
 IsEnded Operations_file left = IsAtEnd left
 IsEnded _ left = Unit {0}
 
--- The buffer holds the next item or end record after the last record, whole, and nothing else.
+-- The buffer holds exactly the next item or end record after the last record.
 pub record HoldsNext (file : Format) (last : List ℕ) (count : ℕ) (buffer : Buffer) : Type 0 where
   pub is_next : next file last count (bytes_so_far buffer) ≡ Ok (length (bytes_so_far buffer))
   pub whole : buffer.bytes.items ≡ bytes_so_far buffer
 
--- what the bytes are: the end record, or an item of which this was found out
+-- the bytes are the end record, or an item with these facts
 abbrev pub IsStep : Format → ℕ → List ℕ → NextRecord → Type 0
 IsStep file count bytes End = (is_end bytes ≡ true) × (bytes ≡ end_record count)
 IsStep file count bytes (Item found) = IsFoundIn (kind_of file) bytes found
 
--- The buffer holds an item that may follow the last record, and nothing else, and this was found out of it.
+-- The buffer holds exactly an item that may follow the last record, and these are its facts.
 pub record HoldsItem (file : Format) (last : List ℕ) (buffer : Buffer) (found : Option SliceFacts) : Type 0 where
   pub whole : buffer.bytes.items ≡ bytes_so_far buffer
   pub found_is : IsFoundIn (kind_of file) (bytes_so_far buffer) found
   pub follows : may_follow file last (bytes_so_far buffer) ≡ true
 
--- what the buffer holds after the last record, and where the source stands: what ends the file, or one item more
+-- the buffer and the source after a step: at the end of the file, or after one more item
 abbrev pub StepsTo : Format → List ℕ → ℕ → Option (List ℕ) → Buffer → NextRecord → Type 0
 StepsTo file last count left buffer End = (bytes_so_far buffer ≡ ending file count) × IsEnded file left
 StepsTo file last count left buffer (Item found) = HoldsItem file last buffer found
 
--- Where a reader of records stands: in which format, after which last record, how many records and how many bytes,
--- with which retirements of an archive, and whether the last record is dropped.
+-- The position of a reader of records: the format, the last record, the numbers of records and of bytes, the
+-- retirements of an archive, and whether the last record is dropped.
 pub record Position : Type 0 where
   pub file : Format
   pub last : List ℕ
@@ -157,68 +157,68 @@ pub record Position : Type 0 where
 abbrev pub set_of : List (List ℕ) → Operations
 set_of records = set.from_list records
 
--- Of several readers that share retirements: those that are shared, if any are, and those that one keeps itself.
+-- The retirements for one of several readers that share some: the shared ones, if any, and its own.
 abbrev pub with_shared : Option (List (List ℕ)) → List (List ℕ) → List (List ℕ)
 with_shared None own = own
 with_shared (Some shared) own = shared ++ own
 
--- where a reader stands if what it shares counts as its own
+-- the position of a reader with its shared retirements counted as its own
 abbrev pub beside : Option (List (List ℕ)) → Position → Position
 beside shared position = record position { retired = with_shared shared position.retired }
 
--- the last record: where its slice was taken out of the reader, the admission of that
+-- the last record; if its slice was moved out of the reader, the admission of that slice
 abbrev pub last_after : Option (List ℕ) → List ℕ → List ℕ
 last_after None last = last
 last_after (Some slice) last = admission_record slice
 
--- how it compares with the one that came whole
+-- how the last record compares with the whole record in the buffer
 abbrev pub order_after : Option (List ℕ) → Buffer → Ordering
 order_after None buffer = buffer.order
 order_after (Some slice) buffer = slice_cmp nat_cmp (admission_record slice) buffer.bytes.items
 
--- where a reader stands if the last record is that one
+-- the position of a reader with that as its last record
 abbrev pub after_taken : Option (List ℕ) → Position → Position
 after_taken taken position = record position { last = last_after taken position.last }
 
--- these bytes, where they are as long as a retirement and have its tag
+-- the bytes, if they have the length of a retirement and its tag
 abbrev pub retirement_in : List ℕ → Option (List ℕ)
 retirement_in bytes = if length bytes == 57 && slice_index bytes 0 == 1 then Some bytes else None
 
--- The same retirements are in both sets: their tag is 1.
+-- Both sets have the same retirements: their tag is 1.
 abbrev pub RetireAlike : Operations → Operations → Type 0
 RetireAlike o p = (r : List ℕ) → set.contains o (1 ∷ r) ≡ set.contains p (1 ∷ r)
 
--- This tells whether one of the retirements covers the record, and the record was kept if it is a retirement.
+-- The flag says whether one of the retirements covers the record, and the record was added if it is a retirement.
 pub record Keeps (old new : List (List ℕ)) (covered : Bool) (item : List ℕ) : Type 0 where
   pub tells : is_covered (set_of old) item ≡ covered
   pub alike : RetireAlike (set_of new) (set.insert (set_of old) item)
 
--- The same of an item of such a file. What is covered is dropped in an archive of version 1, and stands in none of
--- version 2; the others have no such test.
+-- The same for an item of such a file. A covered slice is dropped in an archive of version 1, and is a fault in one of
+-- version 2; the other formats have no such test.
 abbrev pub KeepsIn : Format → List (List ℕ) → List (List ℕ) → Bool → List ℕ → Type 0
 KeepsIn Archive old new dropped item = Keeps old new dropped item × (dropped ≡ false)
 KeepsIn OldArchive old new dropped item = Keeps old new dropped item
 KeepsIn _ old new dropped item = dropped ≡ false
 
--- these are the retirements among the records of an archive
+-- the retirements among the records of an archive
 abbrev pub AreRetired : Format → List (List ℕ) → List (List ℕ) → Type 0
 AreRetired Archive retired records = RetireAlike (set_of retired) (set_of records)
 AreRetired OldArchive retired records = RetireAlike (set_of retired) (set_of records)
 AreRetired _ retired records = Unit {0}
 
--- this tells whether a retirement among the records of an archive covers the last of them
+-- the flag says whether a retirement among the records of an archive covers the last of them
 abbrev pub DropsLast : Format → Bool → List (List ℕ) → Type 0
 DropsLast Archive dropped records = dropped ≡ is_covered (set_of records) (last_of [] records)
 DropsLast OldArchive dropped records = dropped ≡ is_covered (set_of records) (last_of [] records)
 DropsLast _ dropped records = dropped ≡ false
 
--- what is kept of it: a piece has room for some bytes, and there are not too many records, nor bytes of them
+-- the bounds of a reader: a piece has room for at least one byte, and the numbers of records and of bytes are limited
 pub record Bounds (room count offset : ℕ) : Type 0 where
   pub some : 0 < room
   pub few : count < 2 ^ 63
   pub fits : offset ≤ 8 + count * 2 ^ 64
 
--- One item more was read.
+-- One more item was read.
 pub record Passes (a b : Option (List ℕ)) (before after : Position) : Type 0 where
   pub taken : Consumes a b after.last
   pub item : IsItem before.file after.last
@@ -229,7 +229,7 @@ pub record Passes (a b : Option (List ℕ)) (before after : Position) : Type 0 w
   pub few : after.count < 2 ^ 63
   pub kept : KeepsIn before.file before.retired after.retired after.dropped after.last
 
--- What ends the file was read.
+-- The end of the file was read.
 pub record Finishes (a b : Option (List ℕ)) (before after : Position) : Type 0 where
   pub taken : Consumes a b (ending before.file before.count)
   pub ended : IsEnded before.file b
@@ -239,7 +239,7 @@ pub record Finishes (a b : Option (List ℕ)) (before after : Position) : Type 0
   pub few : before.count < 2 ^ 63
   pub retired_is : after.retired ≡ before.retired
 
--- What came is a record that may follow, but a retirement before it covers it.
+-- The bytes are a record that may follow, but a retirement before it covers it.
 pub record IsCoveredThere (before : Position) (rest : List ℕ) (kind : RecordFaultKind) : Type 0 where
   pub kind_is : kind ≡ Covered
   pub file_is : before.file ≡ Archive
@@ -247,14 +247,14 @@ pub record IsCoveredThere (before : Position) (rest : List ℕ) (kind : RecordFa
   pub follows : may_follow Archive before.last rest ≡ true
   pub covered : is_covered (set_of before.retired) rest ≡ true
 
--- What came is an item that may follow, and that no retirement before it covers where that is a fault.
+-- The bytes are an item that may follow, and if coverage is a fault, no retirement before it covers it.
 pub record IsWholeThere (before : Position) (rest : List ℕ) : Type 0 where
   pub item : IsItem before.file rest
   pub follows : may_follow before.file before.last rest ≡ true
   pub uncovered : before.file ≡ Archive → is_covered (set_of before.retired) rest ≡ false
 
--- What came was no item of the file that may stand there, nor what ends the file, or memory was wanted, for a part of
--- an item or for a whole one.
+-- The reader stopped: the bytes are neither an item of the file that may follow nor the end of the file, or memory ran
+-- out within an item or after a whole one.
 pub record StopsAt (a b : Option (List ℕ)) (before : Position) (fault : RecordFault) : Type 0 where
   pub rest : List ℕ
   pub taken : Consumes a b rest
@@ -266,13 +266,13 @@ pub record StopsAt (a b : Option (List ℕ)) (before : Position) (fault : Record
   pub offset_is : fault.offset ≡ before.offset
   pub few : before.count < 2 ^ 63
 
--- Where memory was wanted, this is the last record: what came, if that is a whole item, and else none, since less than
--- one came.
+-- If memory ran out, the last record is the item that was read, if it is whole; otherwise it is empty, since only a
+-- part of an item was read.
 abbrev pub HasWhole : Format → List ℕ → List ℕ → Type 0
 HasWhole file rest last =
     (IsItem file rest × (last ≡ rest)) ⊎ ((framed file rest ≡ Err Truncated) × (last ≡ []))
 
--- What came of one step: the end of the file, one item more, or why the reader stops.
+-- The result of one step: the end of the file, one more item, or the fault.
 abbrev pub Advances : {R : Type 0} → (R → Option (List ℕ)) → (R → ℕ) → R → R → Position → Position
     → Result NextRecord RecordFault → Type 0
 Advances left failures old new before after (Ok End) =
@@ -297,7 +297,7 @@ pub record HasRead (file : Format) (a b : Option (List ℕ)) (records : List (Li
   pub retired_are : AreRetired file position.retired records
   pub dropped_is : DropsLast file position.dropped records
 
--- The magic, these records and what ends the file after them were read, and nothing after it.
+-- The magic, these records and the end of the file were read, and nothing after it.
 pub record HasReadAll (file : Format) (a b : Option (List ℕ)) (records : List (List ℕ))
     (position : Position) : Type 0 where
   pub taken : Consumes a b (text_of file records)
@@ -308,7 +308,7 @@ pub record HasReadAll (file : Format) (a b : Option (List ℕ)) (records : List 
   pub offset_is : position.offset ≡ front_length records
   pub retired_are : AreRetired file position.retired records
 
--- what came after the records, and why reading stopped there
+-- the bytes after the records, and the fault there
 abbrev pub Stops : Format → List (List ℕ) → List ℕ → RecordFault → Type 0
 Stops file records rest fault =
     ((fault.offset ≡ front_length records) × (fault.kind ≢ OutOfMemory → Fails file records rest (seen_as fault.kind)))
@@ -316,7 +316,7 @@ Stops file records rest fault =
     × (fault.offset ≡ front_length records + 9))
     ⊎ ((fault.kind ≡ Device) × (rest ≡ end_record (length records)) × (fault.offset ≡ front_length records))
 
--- The magic, these records and what came after them were read, where reading stopped.
+-- The magic, these records and the bytes after them were read; there the reader stopped.
 pub record Stopped (file : Format) (a b : Option (List ℕ)) (records : List (List ℕ))
     (fault : RecordFault) : Type 0 where
   pub rest : List ℕ
@@ -328,12 +328,12 @@ pub record Stopped (file : Format) (a b : Option (List ℕ)) (records : List (Li
   pub stops : Stops file records rest fault
   pub undecided : IsOfMachine fault.kind → IsCutAtMost file (magic_of file ++ (concat records ++ rest))
 
--- The same, and this is the last record where memory was wanted.
+-- The same, with the last record if memory ran out.
 abbrev pub StoppedWith : Format → Option (List ℕ) → Option (List ℕ) → List (List ℕ) → RecordFault → List ℕ → Type 0
 StoppedWith file a b records fault last =
     (stopped : Stopped file a b records fault) × (fault.kind ≡ OutOfMemory → HasWhole file stopped.rest last)
 
--- entries strictly ascending: what a summary keeps
+-- strictly ascending entries, as a summary keeps them
 pub record AreListed (entries : List (List ℕ)) : Type 0 where
   pub ascending : IsStrictlySortedBy (slice_cmp nat_cmp) entries
   pub are : AllByRecursion IsEntry entries
@@ -344,26 +344,26 @@ HasStopped file a b fault =
     ((bytes : List ℕ) × Consumes a b bytes × StopsInMagicOf file bytes fault.kind × (fault.offset ≡ 0))
     ⊎ ((format : Format) × (kind_of format ≡ file) × (records : List (List ℕ)) × Stopped format a b records fault)
 
--- of an archive the records that are taken make themselves, and each is above the one before it
+-- the records of an archive that are not dropped are their own content, and each is above the one before it
 abbrev pub MakeThemselves : TextKind → List (List ℕ) → Type 0
 MakeThemselves Archive_text records = IsMade (set.from_list records) × InOrder Archive [] records
 MakeThemselves _ records = Unit {0}
 
--- These records were read, and this was made of those that are taken.
+-- These records were read, and the value was built from those that are not dropped.
 pub record Gathers {T : Type 0} (file : Format) (Makes : List (List ℕ) → T → Type 0) (a b : Option (List ℕ))
     (value : T) (position : Position) : Type 0 where
   pub records : List (List ℕ)
   pub read : HasRead file a b records position
   pub makes : Makes (taken_of file records) value
 
--- These records and what ends the file were read, and this was made of those that are taken.
+-- These records and the end of the file were read, and the value was built from those that are not dropped.
 pub record GathersAll {T : Type 0} (file : Format) (Makes : List (List ℕ) → T → Type 0) (a b : Option (List ℕ))
     (value : T) (position : Position) : Type 0 where
   pub records : List (List ℕ)
   pub read : HasReadAll file a b records position
   pub makes : Makes (taken_of file records) value
 
--- The text of these records was read, and this was made of those that are taken.
+-- The text of these records was read, and the value was built from those that are not dropped.
 pub record IsGathered {T : Type 0} (file : TextKind) (Makes : List (List ℕ) → T → Type 0) (a b : Option (List ℕ))
     (value : T) : Type 0 where
   pub format : Format

@@ -1,4 +1,4 @@
--- The texts of files: those of a content, of version 2 and of version 1, that of operations, and that of a summary.
+-- The texts of files: of a content in version 2 and in version 1, of operations, and of a summary.
 use Rattle.std.specs.Prelude.{◌≡◌, ℕ, true, List, [], ◌∷◌, ◌++◌, ◌↔◌, length, map, filter, not, All, Contains, ◌⊎◌}
 use Rattle.std.specs.Int.{w64, to_be_bytes}
 use Rattle.std.specs.List.{concat}
@@ -16,11 +16,11 @@ use Rattle.archive_records.specs.declared.format.Format.TheVariants.{Archive, Ol
 use Rattle.archive_records.specs.declared.format.Format.TheVariants.{Summary as Summary_file}
 use Rattle.archive_records.specs.Kind.{magic, old_magic, operations_magic, summary_magic, magic_of, IsItem, may_follow}
 
--- the end record of so many records
+-- the end record with this number of records
 unfoldable pub end_record : ℕ → List ℕ
 end_record count = 3 ∷ to_be_bytes w64 count
 
--- what stands after so many records: an end record, or nothing
+-- the bytes after this number of records: an end record, or nothing
 abbrev pub ending : Format → ℕ → List ℕ
 ending Operations_file count = []
 ending _ count = end_record count
@@ -29,7 +29,7 @@ ending _ count = end_record count
 abbrev pub text_of : Format → List (List ℕ) → List ℕ
 text_of file records = magic_of file ++ (concat records ++ ending file (length records))
 
--- the text that is written of a content: its records strictly ascending in byte order, between the magic and the end
+-- the text that is written for a content: its records strictly ascending in byte order, between the magic and the end
 -- record
 pub record IsWritten (o : Operations) (text : List ℕ) : Type 0 where
   pub records : List (List ℕ)
@@ -37,12 +37,11 @@ pub record IsWritten (o : Operations) (text : List ℕ) : Type 0 where
   pub members : (r : List ℕ) → Contains records r ↔ (set.contains o r ≡ true)
   pub whole : text ≡ text_of Archive records
 
--- this text, as the content determines it
+-- the same text, as a function of the content
 unfoldable pub written : Operations → List ℕ
 written o = magic ++ (concat (listing o) ++ end_record (set.len o))
 
--- the text of a set of operations in version 1: the same form, after the old magic. Slices may stand in it that are
--- covered.
+-- the text of a set of operations in version 1: the same form, with the old magic. It may contain covered slices.
 unfoldable pub old_written : Operations → List ℕ
 old_written p = old_magic ++ (concat (listing p) ++ end_record (set.len p))
 
@@ -50,18 +49,18 @@ old_written p = old_magic ++ (concat (listing p) ++ end_record (set.len p))
 abbrev pub AreOperations : Operations → Type 0
 AreOperations p = (r : List ℕ) → set.contains p r ≡ true → IsRecord r
 
--- The text is one of version 1, and this is the content that its operations make.
+-- The text has version 1, and this is the content of its operations.
 pub record IsOldText (o : Operations) (text : List ℕ) : Type 0 where
   pub operations : Operations
   pub are : AreOperations operations
   pub whole : text ≡ old_written operations
   pub makes : o ≡ content_of operations
 
--- the text is an archive's, and gives this content: it is written so, or of version 1
+-- the text is an archive's with this content: the written one, or one of version 1
 abbrev pub IsArchiveOf : Operations → List ℕ → Type 0
 IsArchiveOf o text = (text ≡ written o) ⊎ IsOldText o text
 
--- those of the records whose entries are not among these
+-- the records whose entries are not in this set
 abbrev pub missing : Entries → List (List ℕ) → List (List ℕ)
 missing s records = filter (λ r. not (set.contains s (entry r))) records
 
@@ -72,36 +71,35 @@ pub record IsSummaryText (s : Entries) (text : List ℕ) : Type 0 where
   pub members : (e : List ℕ) → Contains entries e ↔ (set.contains s e ≡ true)
   pub whole : text ≡ text_of Summary_file entries
 
--- the text, as the summary determines it
+-- the same text, as a function of the summary
 unfoldable pub summary_text : Entries → List ℕ
 summary_text s = summary_magic ++ (concat (listing s) ++ end_record (set.len s))
 
--- the text of operations: the magic and their records, in their order and as often as they come
+-- the text of operations: the magic and their records, in any order and with repeats
 pub record IsOperationsText (text : List ℕ) (operations : List Operation) : Type 0 where
   pub are : All IsOperation operations
   pub whole : text ≡ operations_magic ++ concat (map record_bytes operations)
 
--- items of the file, each of which may follow the one before it, and the first of which may follow low
+-- items of the file; each may follow the one before it, and the first may follow low
 abbrev pub InOrder : Format → List ℕ → List (List ℕ) → Type 0
 InOrder file low [] = Unit {0}
 InOrder file low (x ∷ xs) = IsItem file x × (may_follow file low x ≡ true) × InOrder file x xs
 
--- Of an archive of version 2 the records make themselves: none is an admission that a retirement among them covers. In
--- version 1 one may be.
+-- In an archive of version 2 no retirement among the records covers an admission among them. In version 1 one may.
 abbrev pub AreApart : Format → List (List ℕ) → Type 0
 AreApart Archive records = IsMade (set.from_list records)
 AreApart _ records = Unit {0}
 
--- those of the records that no retirement among them covers
+-- the records that no retirement among them covers
 unfoldable pub kept : List (List ℕ) → List (List ℕ)
 kept records = filter (λ r. not (is_covered (set.from_list records) r)) records
 
--- those of the records that are taken: of an archive of version 1 what is covered is dropped
+-- the records that are not dropped: an archive of version 1 drops the covered ones
 abbrev pub taken_of : Format → List (List ℕ) → List (List ℕ)
 taken_of OldArchive records = kept records
 taken_of _ records = records
 
--- the last record, or low where there is none; the empty list is below every record
+-- the last record, or low if there is none; the empty list is below every record
 abbrev pub last_of : List ℕ → List (List ℕ) → List ℕ
 last_of low [] = low
 last_of low (x ∷ xs) = last_of x xs

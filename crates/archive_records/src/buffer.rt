@@ -1,4 +1,4 @@
-//! Bytes from a source that are read over those of the last record.
+//! A buffer that reads each record from a source over the last one.
 
 ghost use Rattle.std.specs.Prelude.{◌≡◌, ◌≢◌, ◌+◌, ◌^◌, ◌<◌, ◌≤◌, ◌++◌, MatchResult};
 ghost use Rattle.std.specs.Prelude.{ℕ, length, take, drop, vec_capacity};
@@ -13,24 +13,24 @@ use byte_device::{Failed, Source, make_room};
 use memory::{Heap, NoMemory};
 use std::cmp::Ordering;
 
-/// A record as it comes: its first `at` bytes, and after them what is left of the last one.
+/// A record that is being read: its first `at` bytes, and after them the rest of the last record.
 #[derive(Drop)]
 pub struct Buffer {
     pub bytes: Vec<u8, Heap>,
     pub at: usize,
-    /// How the front of the last record compares with what came.
+    /// How the front of the last record compares with the bytes that were read.
     pub order: Ordering,
 }
 
-/// How a compares with b in byte order.
+/// Compares a with b in byte order.
 pub fn compare_bytes(a: &[u8], b: &[u8]) -> Ordering
     ensures { result ≡ slice_cmp nat_cmp a.now b.now }
 {
     a.cmp(&b)
 }
 
-/// Writes the bytes over those from `at` on, and says how what stood there compares with them, after what compared so
-/// before.
+/// Writes the bytes over those from `at`. Returns how the old bytes compare with the new ones; `order` is the result
+/// for the bytes before `at`.
 fn write_over(under: &mut Vec<u8, Heap>, at: usize, order: Ordering, bytes: &[u8]) -> Ordering
     requires within { at ≤ length under.old.items }
     requires room { at + length bytes.now ≤ vec_capacity under.old }
@@ -50,7 +50,7 @@ fn write_over(under: &mut Vec<u8, Heap>, at: usize, order: Ordering, bytes: &[u8
     order
 }
 
-/// Pulls a piece of a record into the chunk, and writes it over the last one.
+/// Pulls a piece of a record into the chunk, and writes it over the last record.
 fn pull_over<R: Source>(r: &mut R, chunk: &mut [u8], buffer: &mut Buffer) -> Result<usize, Failed>
     requires within { buffer.old.at ≤ length buffer.old.bytes.items }
     requires room { buffer.old.at + length chunk.old ≤ vec_capacity buffer.old.bytes }
@@ -62,7 +62,7 @@ fn pull_over<R: Source>(r: &mut R, chunk: &mut [u8], buffer: &mut Buffer) -> Res
     Ok(n)
 }
 
-/// Makes the bytes this many, within their room, where they are fewer.
+/// Extends the bytes to this length, within their capacity, if they are shorter.
 fn lengthen(bytes: &mut Vec<u8, Heap>, count: usize)
     requires room { count ≤ vec_capacity bytes.old }
     ensures long { count ≤ length bytes.new.items }
@@ -73,7 +73,7 @@ fn lengthen(bytes: &mut Vec<u8, Heap>, count: usize)
     }
 }
 
-/// Pulls a piece of a record of which the last one differs straight after what came of it.
+/// Pulls a piece of a record straight into the buffer, after bytes that differ from the last record.
 fn pull_after<R: Source>(r: &mut R, want: usize, buffer: &mut Buffer) -> Result<usize, Failed>
     requires within { buffer.old.at ≤ length buffer.old.bytes.items }
     requires room { buffer.old.at + want ≤ vec_capacity buffer.old.bytes }
@@ -87,7 +87,7 @@ fn pull_after<R: Source>(r: &mut R, want: usize, buffer: &mut Buffer) -> Result<
     Ok(n)
 }
 
-/// Pulls a piece of a record, of the chunk's length at most.
+/// Pulls a piece of a record, of at most the chunk's length.
 fn pull_piece<R: Source>(r: &mut R, chunk: &mut [u8], buffer: &mut Buffer) -> Result<usize, Failed>
     requires within { buffer.old.at ≤ length buffer.old.bytes.items }
     requires room { buffer.old.at + length chunk.old ≤ vec_capacity buffer.old.bytes }
@@ -99,8 +99,8 @@ fn pull_piece<R: Source>(r: &mut R, chunk: &mut [u8], buffer: &mut Buffer) -> Re
     }
 }
 
-/// Reads this many bytes over the buffer, in pieces of the chunk's length at most. They come through the chunk for as
-/// long as the last record may be the same, and after that straight into the buffer.
+/// Reads this number of bytes over the buffer, in pieces of at most the chunk's length. They go through the chunk while
+/// the record may equal the last one, and afterwards straight into the buffer.
 pub fn fill<R: Source>(
     r: &mut R,
     chunk: &mut [u8],

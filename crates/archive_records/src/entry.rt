@@ -1,4 +1,4 @@
-//! What a summary says of one operation.
+//! The entry of one operation in a summary.
 
 ghost use Rattle.std.specs.Prelude.{◌≡◌};
 ghost use Rattle.std.specs.Ordering.{nat_cmp};
@@ -14,9 +14,9 @@ use std::cmp::Ordering;
 /// An operation without the bytes of its slice.
 #[derive(Clone, Copy, Debug, PartialEq, Eq)]
 pub enum Entry {
-    /// The slices under that key whose bytes have that SHA-256 are retired.
+    /// A retirement of the slices with that key and that SHA-256.
     Retirement(SliceKey, Digest),
-    /// A slice under that key whose bytes have that SHA-256 is kept.
+    /// An admission of the slice with that key and that SHA-256.
     Admission(SliceKey, Digest),
 }
 
@@ -31,7 +31,7 @@ impl Entry {
         }
     }
 
-    /// The entry as it stands in a summary's text: a tag, the key, and the digest.
+    /// The bytes of the entry in a summary's text: a tag, the key, and the digest.
     pub fn bytes(&self) -> [u8; ENTRY_LEN]
         ensures { result ≡ entry_bytes self.now }
     {
@@ -41,7 +41,7 @@ impl Entry {
         }
     }
 
-    /// Compares two entries as their bytes stand in a summary's text.
+    /// Compares two entries by their bytes in a summary's text.
     pub fn compare(&self, other: &Entry) -> Ordering
         ensures { result ≡ slice_cmp nat_cmp (entry_bytes self.now) (entry_bytes other.now) }
     {
@@ -49,7 +49,7 @@ impl Entry {
     }
 }
 
-/// The entry that these bytes are.
+/// The entry with these bytes.
 pub(crate) fn entry_in(bytes: &[u8]) -> Entry
     requires { IsEntry bytes.now }
     ensures { entry_bytes result ≡ bytes.now }

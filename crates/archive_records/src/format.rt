@@ -1,4 +1,4 @@
-//! The formats of files: a magic each.
+//! The formats of files: each has a magic.
 
 ghost use Rattle.std.specs.Prelude.{◌≡◌, ◌≤◌, ◌↔◌, IsTrue, length, take};
 ghost use Rattle.archive_records.specs.declared.format.Format.TheVariants.{Operations};
@@ -6,21 +6,21 @@ ghost use Rattle.archive_records.specs.Kind.{magic_of, allows};
 
 use std::cmp::Ordering;
 
-/// What a file of records begins with, and what follows.
+/// The format of a file of records: its magic, and the rules for its records.
 #[derive(Clone, Copy, Debug, PartialEq, Eq)]
 pub enum Format {
-    /// The text of an archive: its records ascend, and an end record stands after them.
+    /// The text of an archive: its records ascend, and an end record follows them.
     Archive,
-    /// The same of version 1, in which slices may stand that its retirements cover.
+    /// The same in version 1; it may contain slices that its retirements cover.
     OldArchive,
     /// Operations in any order, with repeats, up to the end of the input.
     Operations,
-    /// The text of a summary: its entries ascend, and an end record stands after them.
+    /// The text of a summary: its entries ascend, and an end record follows them.
     Summary,
 }
 
 impl Format {
-    /// What the file begins with.
+    /// The first eight bytes of the file.
     pub fn magic(self) -> [u8; 8]
         ensures { result ≡ magic_of self }
     {
@@ -32,7 +32,7 @@ impl Format {
         }
     }
 
-    /// Whether these bytes are as the magic begins.
+    /// Whether the bytes are a prefix of the magic.
     pub fn magic_begins_with(self, bytes: &[u8]) -> bool
         requires { length bytes.now ≤ 8 }
         ensures { IsTrue result ↔ (bytes.now ≡ take (length bytes.now) (magic_of self)) }
@@ -40,7 +40,7 @@ impl Format {
         bytes == &self.magic()[..bytes.len()]
     }
 
-    /// Whether a record may stand after one that compares so with it.
+    /// Whether a record may follow one that compares with it by this order.
     #[tactic(auto, unfolding(crate::specs::Kind::allows))]
     pub fn allows(self, order: Ordering) -> bool
         ensures { result ≡ allows self order }
@@ -51,7 +51,7 @@ impl Format {
         }
     }
 
-    /// Whether the file ends where nothing is left after its records.
+    /// Whether the file ends where nothing is left after its records; it has no end record.
     pub fn is_open(self) -> bool
         ensures { IsTrue result ↔ (self ≡ Operations) }
     {

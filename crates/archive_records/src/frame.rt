@@ -12,7 +12,7 @@ use crate::head::{LARGEST_SLICE, body_length_of, head_length_of};
 use byte_device::Source;
 use std::cmp::Ordering;
 
-/// Reads the head of the next record, and says how long it is.
+/// Reads the head of the next record, and returns its length.
 fn read_head<R: Source>(
     file: Format,
     r: &mut R,
@@ -34,7 +34,7 @@ fn read_head<R: Source>(
     Ok(head)
 }
 
-/// Reads what follows the head.
+/// Reads the bytes after the head.
 fn read_body<R: Source>(
     file: Format,
     r: &mut R,

@@ -1,4 +1,4 @@
-//! The heads of records: numbers and keys at their places.
+//! The heads of records: numbers and keys at their offsets.
 
 ghost use Rattle.std.specs.Prelude.{◌≡◌, ◌+◌, ◌<◌, ◌≤◌, ◌^◌, ◌↔◌, ◌∷◌, ◌++◌, IsTrue};
 ghost use Rattle.std.specs.Prelude.{IfSome, length, slice_index, take, drop};
@@ -19,26 +19,26 @@ use archive_core::{
 use byteorder::{BigEndian, ByteOrder};
 use uuid::Uuid;
 
-/// How many bytes stand before the first record.
+/// The number of bytes before the first record.
 pub const MAGIC_LEN: u128 = 8;
 
 pub const ADMISSION: u8 = 2;
 
 pub const END: u8 = 3;
 
-/// How many bytes an entry of a summary has: a tag, a key and a digest, as a retirement's record.
+/// The length of a summary's entry in bytes: a tag, a key and a digest, as in a retirement's record.
 pub const ENTRY_LEN: usize = RETIREMENT_LEN;
 
-/// How many bytes of an admission's record stand before its slice.
+/// The number of bytes before the slice in an admission's record.
 pub const ADMISSION_HEAD_LEN: usize = 33;
 
-/// How many bytes a slice has at most.
+/// The largest length of a slice in bytes.
 pub const LARGEST_SLICE: u64 = 4294967295;
 
-/// How many bytes the end record of an archive or a summary has.
+/// The length of the end record of an archive or a summary in bytes.
 pub const END_LEN: usize = 9;
 
-// How long an admission's head is.
+// The length of an admission's head.
 fn admission_length_of(file: Format) -> usize
     ensures value { result ≡ admission_length file }
     ensures long { (8 < result) × (result < 58) }
@@ -49,7 +49,7 @@ fn admission_length_of(file: Format) -> usize
     }
 }
 
-// How long an end record is, where there is one.
+// The length of an end record, if the format has one.
 fn end_length_of(file: Format) -> Option<usize>
     ensures value { result ≡ end_length file }
     ensures long { IfSome result (λ head. (8 < head) × (head < 58)) }
@@ -60,7 +60,7 @@ fn end_length_of(file: Format) -> Option<usize>
     }
 }
 
-/// How long the head is, by its tag.
+/// The length of the head, by its tag. `None` for an unknown tag.
 #[tactic(auto, unfolding(crate::specs::Layout::head_length))]
 pub fn head_length_of(file: Format, bytes: &[u8]) -> Option<usize>
     requires { 0 < length bytes.now }
@@ -75,7 +75,7 @@ pub fn head_length_of(file: Format, bytes: &[u8]) -> Option<usize>
     }
 }
 
-/// The number in eight bytes at an offset.
+/// The big-endian number in the eight bytes at an offset.
 pub fn number_at(bytes: &[u8], at: usize) -> u64
     requires { at + 8 ≤ length bytes.now }
     ensures number { result ≡ from_be_bytes w64 (take 8 (drop at bytes.now)) }
@@ -84,7 +84,7 @@ pub fn number_at(bytes: &[u8], at: usize) -> u64
     BigEndian::read_u64(&bytes[at..])
 }
 
-// How many bytes follow an admission's head.
+// The number of bytes after an admission's head.
 fn admission_body_of(file: Format, head: &[u8]) -> u64
     requires { admission_length file ≤ length head.now }
     ensures { result ≡ admission_body file head.now }
@@ -95,7 +95,7 @@ fn admission_body_of(file: Format, head: &[u8]) -> u64
     }
 }
 
-/// How many bytes follow the head.
+/// The number of bytes after the head.
 #[tactic(auto, unfolding(crate::specs::Layout::body_length))]
 pub fn body_length_of(file: Format, head: &[u8]) -> u64
     requires one { 0 < length head.now }
@@ -127,7 +127,7 @@ pub fn has_key(bytes: &[u8], key: &SliceKey) -> bool
     &bytes[1..25] == &whole[..]
 }
 
-/// What stands before the slice in its admission's record.
+/// The bytes before the slice in its admission's record.
 pub fn admission_head(slice: &CheckedSlice<'_>) -> [u8; ADMISSION_HEAD_LEN]
     ensures head { result ≡ 2 ∷ (key_bytes (key_of slice.now) ++ to_be_bytes w64 (length slice.now)) }
     ensures short { length slice.now < 2 ^ 32 }
@@ -140,7 +140,7 @@ pub fn admission_head(slice: &CheckedSlice<'_>) -> [u8; ADMISSION_HEAD_LEN]
     head
 }
 
-/// The end record of so many records.
+/// The end record with this number of records.
 #[tactic(auto, unfolding(crate::specs::Text::end_record))]
 pub fn end_bytes(count: u64) -> [u8; END_LEN]
     ensures { result ≡ end_record count }
@@ -151,7 +151,7 @@ pub fn end_bytes(count: u64) -> [u8; END_LEN]
     record
 }
 
-// The number in four bytes at an offset.
+// The big-endian number in the four bytes at an offset.
 fn arch_number_at(bytes: &[u8], at: usize) -> u32
     requires { at + 4 ≤ length bytes.now }
     ensures { to_be_bytes w32 result ≡ take 4 (drop at bytes.now) }
@@ -186,7 +186,7 @@ pub fn digest_in(bytes: &[u8]) -> Digest
     Digest(digest)
 }
 
-/// The record that these bytes are, by what was found out of its slice.
+/// The record with these bytes and these facts of its slice.
 pub fn record_in(bytes: &[u8], found: Option<SliceFacts>) -> Record<'_>
     requires { IsFound bytes.now found }
     ensures bytes { borrowed_bytes result ≡ bytes.now }

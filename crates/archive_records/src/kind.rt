@@ -1,4 +1,4 @@
-//! The kinds of files that records or entries stand in.
+//! The kinds of files with records or entries.
 
 ghost use Rattle.std.specs.Prelude.{◌≡◌, ◌≢◌, ◌<◌, ◌↔◌, IsTrue, IfSome, IfNone, length, take};
 ghost use Rattle.archive_records.specs.declared.format.Format.{Format};
@@ -7,10 +7,10 @@ ghost use Rattle.archive_records.specs.Kind.{kind_of, magic_of};
 
 use crate::format::Format;
 
-/// What a file of records is.
+/// The kind of a file of records.
 #[derive(Clone, Copy, Debug, PartialEq, Eq)]
 pub enum TextKind {
-    /// The text of an archive, of one version or the other.
+    /// The text of an archive, of either version.
     Archive,
     /// Operations in any order, with repeats, up to the end of the input.
     Operations,
@@ -19,7 +19,7 @@ pub enum TextKind {
 }
 
 impl TextKind {
-    /// The format of the kind whose magic these bytes are.
+    /// The format of this kind with these bytes as its magic. `None` if there is none.
     pub fn format_of(self, magic: &[u8]) -> Option<Format>
         ensures found { IfSome result (λ format. (kind_of format ≡ self) × (magic.now ≡ magic_of format)) }
         ensures none { IfNone result ((format : Format) → kind_of format ≡ self → magic.now ≢ magic_of format) }
@@ -38,8 +38,8 @@ impl TextKind {
         None
     }
 
-    /// Whether these bytes, fewer than a magic has, are as each format of the kind begins: the magics of archives
-    /// differ in their last byte alone.
+    /// Whether the bytes, fewer than a magic has, are a prefix of the magic of each format of the kind: the magics of
+    /// archives differ in their last byte alone.
     pub fn magic_begins_with(self, bytes: &[u8]) -> bool
         requires { length bytes.now < 8 }
         ensures { (format : Format) → kind_of format ≡ self
@@ -52,7 +52,7 @@ impl TextKind {
         }
     }
 
-    /// Whether such a file ends where nothing is left after its records.
+    /// Whether such a file ends where nothing is left after its records; it has no end record.
     pub fn is_open(self) -> bool
         ensures { IsTrue result ↔ (self ≡ Operations) }
     {

@@ -1,37 +1,38 @@
-//! One record of a text after another, read and written over any device, and the texts that are written.
+//! Reads the records of a text one by one from any device, and writes them, and the texts of archives, deltas and
+//! summaries.
 //!
 //! The text of an archive is the magic `MSYMARC2`, the records of its operations strictly ascending in byte order, and
 //! an end record with their number; all numbers are big-endian. A record is a tag, a key, and for a retirement (tag 1)
-//! the digest, for an admission (tag 2) the length of the slice in eight bytes and the slice. A slice that is retired
-//! is in no such text. So a content is written in one text, and a text gives one content.
+//! the digest, for an admission (tag 2) the length of the slice in eight bytes and the slice. Such a text contains no
+//! retired slice. So each content is written as one text, and a text has one content.
 //!
-//! A text of version 1 begins with `MSYMARC1` and has the same form, and slices that its own retirements cover may
-//! stand in it. It is read, and gives the content that its operations make: what is covered is dropped. None is
+//! A text of version 1 begins with `MSYMARC1` and has the same form, but may contain slices that its own retirements
+//! cover. When it is read, covered slices are dropped; the result is the content of its operations. It is never
 //! written.
 //!
 //! An operations file is the magic `MSYMOPS1` and such records in any order, with repeats, up to the end of the input.
 //!
 //! A summary is the magic `MSYMSUM1`, an entry of 57 bytes for each operation, strictly ascending, and the end record.
-//! A delta is the text of the archive of those operations whose entries a summary does not have.
+//! A delta is the text of the archive of those operations whose entries are not in a summary.
 //!
-//! - `head`: what stands at which place of a record;
-//! - `entry`: [`Entry`], what a summary says of one operation;
+//! - `head`: the offsets of the fields of a record;
+//! - `entry`: [`Entry`], one operation in a summary;
 //! - `summary`: [`Summary`] and [`read_summary`];
 //! - `writing`: [`write_archive`], [`write_summary`] and [`write_delta`];
 //! - `fault`: why a text is refused;
-//! - `kind`: what a file is; `format`: what it begins with, how its records follow one another and how it ends;
+//! - `kind`: the kind of a file; `format`: its magic, the order of its records and its end;
 //! - `buffer`, `frame`, `next`, `retired`, `reader`: one record after another, each read over the last and compared
 //!   with it, and with the retirements before it;
-//! - `records`: one pass over them, and what is told of those that are taken.
+//! - `records`: one pass over the records, and an answer from those that are not dropped.
 //!
 //! # Why it is so
 //!
 //! - Bytes go through a chunk of 64 KiB while they equal those of the last record, and are read in place once they
-//!   differ. The room for a large record grows to its length, and a length that is only claimed takes no memory.
-//! - A reader lends its record. OUT has no buffer: records are written as they are.
-//! - A slice that is kept is taken out of the reader, so it is held once. The caller lends it to the reader, which
-//!   compares the next record with it.
-//! - A definition that tells kinds of text apart has one clause for all others.
+//!   differ. The buffer for a large record grows as its bytes arrive, so a length that is only claimed uses no memory.
+//! - A reader lends its record. OUT has no buffer: records are written from where they are.
+//! - A slice that is kept is moved out of the reader, so there is one copy of it. The caller lends it to the reader,
+//!   which compares the next record with it.
+//! - A definition by kinds of text has one clause for all other kinds.
 #![tactic(auto)]
 
 mod buffer;

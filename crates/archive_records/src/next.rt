@@ -1,4 +1,4 @@
-//! The next record, tested against what came before it.
+//! The next record, tested against the records before it.
 
 ghost use Rattle.std.specs.Prelude.{◌≡◌, ◌≢◌, ◌<◌, ◌≤◌, ℕ, List, length, Ok, Err};
 ghost use Rattle.std.specs.Prelude.{IfOk, IfErr, MatchResult, IsTrue, ◌↔◌, true, false};
@@ -26,16 +26,16 @@ use archive_core::{RETIREMENT, Slice, SliceFacts};
 use byte_device::Source;
 use std::cmp::Ordering;
 
-/// What the reader came to.
+/// The result of a step of the reader.
 #[derive(Clone, Copy)]
 pub enum NextRecord {
-    /// What ends the file.
+    /// The end of the file.
     End,
-    /// One item more. Of an admission it has what the check of the slice found out.
+    /// One more item. For an admission it has the facts from the check of the slice.
     Item(Option<SliceFacts>),
 }
 
-/// What the tests of a whole record or end record say: whether it is the end record.
+/// The tests of a whole record or end record. Returns whether it is the end record.
 #[tactic(auto, unfolding(crate::specs::Fault::is_end))]
 fn test(file: Format, allowed: bool, count: u64, bytes: &[u8]) -> Result<bool, RecordFaultKind>
     requires { framed file bytes.now ≡ Ok (length bytes.now) }
@@ -60,7 +60,7 @@ fn test(file: Format, allowed: bool, count: u64, bytes: &[u8]) -> Result<bool, R
     }
 }
 
-/// How the admission of a slice compares with the bytes of a record.
+/// Compares the admission of a slice with the bytes of a record.
 fn compare_admission(slice: &Slice, bytes: &[u8]) -> Ordering
     ensures { result ≡ slice_cmp nat_cmp (admission_record slice.now) bytes.now }
 {
@@ -72,7 +72,7 @@ fn compare_admission(slice: &Slice, bytes: &[u8]) -> Ordering
     }
 }
 
-/// How the last record, whose slice may be taken out of the buffer, compares with the one that came whole.
+/// Compares the last record, whose slice may have been moved out of the buffer, with the whole record in the buffer.
 fn order_after(taken: Option<&Slice>, buffer: &Buffer) -> Ordering
     ensures { result ≡ order_after (option_map (λ s. s.now) taken.entry) buffer.now }
 {
@@ -82,8 +82,8 @@ fn order_after(taken: Option<&Slice>, buffer: &Buffer) -> Ordering
     }
 }
 
-/// Reads the next record or the end record over the last record, or after one whose slice was taken out of the buffer,
-/// and says whether it is the end record. The slice of an admission is not looked at.
+/// Reads the next record or the end record over the last record, or after one whose slice was moved out of the buffer,
+/// and returns whether it is the end record. The slice of an admission is not tested.
 fn read_in_order<R: Source>(
     file: Format,
     r: &mut R,
@@ -96,7 +96,8 @@ fn read_in_order<R: Source>(
     ensures within { buffer.new.at ≤ length buffer.new.bytes.items }
     ensures taken { Consumes (R.left r.old) (R.left r.new) (bytes_so_far buffer.new) }
     ensures next { MatchResult result
-        (λ end. HoldsNext file (last_after (option_map (λ s. s.now) taken.entry) buffer.old.bytes.items) count buffer.new
+        (λ end. HoldsNext file (last_after (option_map (λ s. s.now) taken.entry) buffer.old.bytes.items) count
+        buffer.new
         × (end ≡ is_end (bytes_so_far buffer.new)) × (end ≡ true → bytes_so_far buffer.new ≡ end_record count))
         (λ kind. next file (last_after (option_map (λ s. s.now) taken.entry) buffer.old.bytes.items) count
         (bytes_so_far buffer.new) ≡ Err (seen_as kind)) }
@@ -108,7 +109,7 @@ fn read_in_order<R: Source>(
     test(file, file.allows(order), count, &buffer.bytes)
 }
 
-/// Tests whether the slice of a whole record is one, and of the record's key, and gives what the check found out of it.
+/// Tests whether the slice of a whole record is valid and has the record's key, and returns its facts.
 fn test_slice(bytes: &[u8]) -> Result<Option<SliceFacts>, RecordFaultKind>
     requires whole { framed Archive bytes.now ≡ Ok (length bytes.now) }
     requires item { is_end bytes.now ≡ false }
@@ -130,7 +131,7 @@ fn test_slice(bytes: &[u8]) -> Result<Option<SliceFacts>, RecordFaultKind>
     }
 }
 
-/// Tests whether what a whole item holds is as it must be, and gives what was found out of its slice.
+/// Tests the fields of a whole item, and returns the facts of its slice.
 fn test_item(file: Format, bytes: &[u8]) -> Result<Option<SliceFacts>, RecordFaultKind>
     requires whole { framed file bytes.now ≡ Ok (length bytes.now) }
     requires item { is_end bytes.now ≡ false }
@@ -143,7 +144,7 @@ fn test_item(file: Format, bytes: &[u8]) -> Result<Option<SliceFacts>, RecordFau
     }
 }
 
-/// Reads the next record or the end record over the last record, or after one whose slice was taken out of the buffer.
+/// Reads the next record or the end record over the last record, or after one whose slice was moved out of the buffer.
 fn read_tested<R: Source>(
     file: Format,
     r: &mut R,
@@ -173,14 +174,14 @@ fn read_tested<R: Source>(
     }
 }
 
-/// Whether the file ends where this stopped the next record, of which so many bytes came.
+/// Whether this fault of the next record, with this number of its bytes read, is the end of the file.
 fn ends_file(file: Format, kind: RecordFaultKind, at: usize) -> bool
     ensures { IsTrue result ↔ ((kind ≡ Truncated) × (at ≡ 0) × (file ≡ Operations)) }
 {
     kind == RecordFaultKind::Truncated && at == 0 && file.is_open()
 }
 
-/// Reads the next record over the last record, or after one whose slice was taken out of the buffer, or what ends the
+/// Reads the next record over the last record, or after one whose slice was moved out of the buffer, or the end of the
 /// file.
 pub fn read_next<R: Source>(
     file: Format,

@@ -1,4 +1,4 @@
-//! A source that is read record by record.
+//! A reader of records from a source.
 
 ghost use Rattle.std.specs.Prelude.{◌≡◌, ◌≢◌, ◌-◌, ◌<◌, ℕ, List, Option, Some, [], length, ◌⊎◌, true, false};
 ghost use Rattle.std.specs.Prelude.{OnOk, IfOk, IfErr, ◌++◌, ◌≤◌, drop, option_map};
@@ -29,21 +29,21 @@ use std::cmp::Ordering;
 use std::marker::Model;
 use std::mem;
 
-/// How many records a file has at most.
+/// The largest number of records in a file.
 pub const MOST: u64 = 9223372036854775807;
 
-/// What was read so far: contracts see where the reader stands.
+/// The state of the reader: contracts see its position.
 #[derive(Drop)]
 pub struct RecordReader {
     file: Format,
     /// The last record.
     buffer: Buffer,
-    /// What was found out of its slice, if it has one.
+    /// The facts of its slice, if it has one.
     found: Option<SliceFacts>,
-    /// Where the next piece of a record is pulled to.
+    /// The buffer for the next piece of a record.
     chunk: Vec<u8, Heap>,
     count: u64,
-    /// How many bytes were read of the magic and the records.
+    /// The number of bytes of the magic and the records that were read.
     offset: u128,
     /// The retirements of an archive's text.
     retired: Retirements,
@@ -67,14 +67,14 @@ impl Model for RecordReader {
         × IsFoundOfLast r.buffer.bytes.items r.found };
 }
 
-// A place for pieces of this many bytes.
+// A chunk of this number of bytes. Fails only if memory runs out.
 fn chunk_of(size: usize, heap: &Heap) -> Result<Vec<u8, Heap>, NoMemory>
     ensures { IfOk result (λ chunk. length chunk.items ≡ size) }
 {
     Ok(vec![in heap.share(); 0; size]?)
 }
 
-/// Reads the magic into the empty buffer, and gives the format that it tells.
+/// Reads the magic into the empty buffer, and returns its format.
 fn read_magic<R: Source>(
     file: TextKind,
     r: &mut R,
@@ -106,8 +106,8 @@ fn read_magic<R: Source>(
     }
 }
 
-/// What the retirements of an archive, and those that it shares, say of one item more: whether it is dropped, and one
-/// more is kept. In an archive of version 1 what is covered is dropped, and no fault.
+/// Whether one more item of an archive is dropped, by the retirements of the archive and the shared ones; if the item
+/// is a retirement, it is added. In an archive of version 1 a covered item is dropped, and is no fault.
 fn keep(
     file: Format,
     shared: Option<&Retirements>,
@@ -201,8 +201,8 @@ impl RecordReader {
         record_in(&self.buffer.bytes, self.found)
     }
 
-    /// The slice of the last record, where that is an admission: it is taken out of the reader without a copy, which
-    /// has no last record then. The next record is read by [`RecordReader::advance_after`].
+    /// Moves the slice of the last record, if that is an admission, out of the reader, which then has no last record.
+    /// The next record is read by [`RecordReader::advance_after`].
     pub fn take_slice(&mut self) -> Option<Slice>
         ensures { after_taken result self.new ≡ self.old }
     {
@@ -221,29 +221,29 @@ impl RecordReader {
         self.dropped
     }
 
-    /// How many bytes were read of the magic and the records.
+    /// The number of bytes of the magic and the records that were read.
     pub fn offset(&self) -> u128
         ensures { result ≡ self.now.offset }
     {
         self.offset
     }
 
-    /// How many of these were read before the last record.
+    /// The number of these bytes before the last record.
     pub fn before_last(&self) -> u128
         ensures { result ≡ self.now.offset - length self.now.last }
     {
         self.offset.saturating_sub(self.buffer.bytes.len() as u128)
     }
 
-    /// The retirements of an archive's text that were read, but for those that it forgot.
+    /// The retirements of an archive's text that were read, without those that were forgotten.
     pub fn retired(&self) -> &Retirements
         ensures { result.now ≡ self.now.retired }
     {
         &self.retired
     }
 
-    /// Whether one of these retirements, which readers share or one of them has, covers the last record. Its slice is
-    /// hashed where a retirement of its key is among them, and it was not hashed before.
+    /// Whether one of the retirements in either set covers the last record. The slice is hashed if one of them has its
+    /// key, and it was not hashed before.
     pub fn covered_by(&mut self, shared: &Retirements, retired: &Retirements) -> bool
         ensures covered { IsRecord self.old.last
             → result ≡ is_covered (set_of (shared.now ++ retired.now)) self.old.last }
@@ -252,14 +252,14 @@ impl RecordReader {
         retires_beside(Some(shared), retired, &self.buffer.bytes, &mut self.found)
     }
 
-    /// The last record, where it is a retirement.
+    /// The last record, if it is a retirement.
     pub fn last_retirement(&self) -> Option<[u8; RETIREMENT_LEN]>
         ensures { result ≡ retirement_in self.now.last }
     {
         retirement_in(&self.buffer.bytes)
     }
 
-    /// Forgets a retirement that is kept elsewhere, where it is the last that was read.
+    /// Forgets a retirement that is also kept elsewhere, if it is the last that was read.
     pub fn forget(&mut self, retirement: &[u8; RETIREMENT_LEN])
         ensures same { self.new ≡ record self.old { retired = self.new.retired } }
         ensures others { set.insert (set_of self.new.retired) retirement.now
@@ -268,15 +268,15 @@ impl RecordReader {
         self.retired.forget(retirement);
     }
 
-    /// Reads the next record over the last, or else what ends the file. Where memory is wanted for a record that came
-    /// whole, it is the last one then, and otherwise there is none.
+    /// Reads the next record over the last one, or the end of the file. If memory runs out after a whole record, that
+    /// is the last record; if it runs out before, there is no last record.
     pub fn advance<R: Source>(&mut self, r: &mut R) -> Result<NextRecord, RecordFault>
         ensures { Advances R.left R.failures r.old r.new self.old self.new result }
     {
         self.advance_beside(r, None)
     }
 
-    /// The same where the slice of the last record was taken out of the reader.
+    /// The same, after the slice of the last record was moved out of the reader.
     pub fn advance_after<R: Source>(
         &mut self,
         r: &mut R,
@@ -288,7 +288,7 @@ impl RecordReader {
         self.advance_by(r, None, taken)
     }
 
-    /// The same where the reader shares retirements with another: they count as its own.
+    /// The same for a reader that shares retirements with another: they count as its own.
     pub fn advance_beside<R: Source>(
         &mut self,
         r: &mut R,
@@ -300,7 +300,7 @@ impl RecordReader {
         self.advance_by(r, shared, None)
     }
 
-    // Both.
+    // The same for both cases.
     fn advance_by<R: Source>(
         &mut self,
         r: &mut R,
@@ -311,6 +311,7 @@ impl RecordReader {
             (beside (option_map (λ s. s.now) shared.entry) (after_taken (option_map (λ s. s.now) taken.entry) self.old))
             (beside (option_map (λ s. s.now) shared.entry) self.new) result }
     {
+        let offset = self.offset;
         self.found = None;
         match read_next(
             self.file,
@@ -334,16 +335,11 @@ impl RecordReader {
                     &mut self.found,
                 ) {
                     Ok(dropped) => self.dropped = dropped,
-                    Err(kind) => {
-                        return Err(RecordFault {
-                            kind,
-                            offset: self.offset,
-                        });
-                    }
+                    Err(kind) => return Err(RecordFault { kind, offset }),
                 }
-                // After all tests of the record: a fault of the text comes before want of memory.
+                // After all tests of the record: a fault of the text comes before `OutOfMemory`.
                 if self.count == MOST {
-                    return Err(RecordFault::out_of_memory(self.offset));
+                    return Err(RecordFault::out_of_memory(offset));
                 }
                 self.count += 1;
                 self.offset += self.buffer.bytes.len() as u128;
@@ -351,15 +347,12 @@ impl RecordReader {
             }
             Err(kind) => {
                 self.buffer.bytes.clear();
-                Err(RecordFault {
-                    kind,
-                    offset: self.offset,
-                })
+                Err(RecordFault { kind, offset })
             }
         }
     }
 
-    /// Whether the input ends after the end record.
+    /// Checks that the input ends after the end record.
     pub fn finish<R: Source>(&self, r: &mut R) -> Result<(), RecordFault>
         ensures at_end { OnOk result (IsAtEnd (R.left r.new) × Consumes (R.left r.old) (R.left r.new) []) }
         ensures stopped { IfErr result (λ fault. (file : Format) (a : Option (List ℕ)) (records : List (List ℕ))

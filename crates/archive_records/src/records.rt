@@ -1,4 +1,4 @@
-//! One pass over the records of a file, for what is told of them.
+//! One pass over the records of a file, for an answer from them.
 
 ghost use Rattle.std.specs.Prelude.{◌≡◌, ◌≢◌, ◌∷◌, ◌++◌, ⊤, ℕ, List, Option, [], OnOk, IfOk, IfErr};
 ghost use Rattle.std.specs.Io.KnownBytes.{IsAtEnd};
@@ -18,39 +18,39 @@ use crate::reader::RecordReader;
 use byte_device::Source;
 use memory::{Heap, NoMemory};
 
-/// What is made of the records of a file, one after another, and what is told of it in the end.
+/// A value that is built from the records of a file, one after another, and the answer that it returns at the end.
 pub trait FromRecords {
-    /// What is asked.
+    /// The question.
     type Question: Drop;
 
-    /// What is told.
+    /// The answer.
     type Told;
 
-    // In which kind of file the records stand.
+    // The kind of file with the records.
     ghost file: { TextKind };
 
-    // What may be asked.
+    // The questions that are allowed.
     ghost may_ask: { Self.Question → Type 0 } = { λ _. ⊤ };
 
-    // By what was asked these records made the value, in their order.
+    // For the question, these records in their order built the value.
     ghost makes: { Self.Question → List (List ℕ) → Self → Type 0 };
 
-    // This is told of what was asked, where this is what the file says.
+    // The answer to the question for a file with this meaning.
     ghost tells: { Self.Question → Self.Told → Meaning file → Type 0 };
 
-    /// What is made of no record.
+    /// Begins the value, from no records.
     fn begin(heap: Heap, question: Self::Question) -> Self
         requires { may_ask question }
         ensures { makes question [] result };
 
-    /// Takes one record more: the one that was read last. Refused for want of memory alone.
+    /// Adds one more record: the last one that was read. Fails only if memory runs out.
     fn take(&mut self, heap: &Heap, reader: &RecordReader) -> Result<(), NoMemory>
         requires { IsItemOf file reader.now.last }
         ensures { OnOk result ((question : Self.Question) (records : List (List ℕ))
             → MakeThemselves file (records ++ reader.now.last ∷ [])
             → makes question records self.old → makes question (records ++ reader.now.last ∷ []) self.new) };
 
-    /// What is told, after the last of them. Refused for want of memory alone.
+    /// The answer, after the last record. Fails only if memory runs out.
     fn finish(self, heap: &Heap) -> Result<Self::Told, NoMemory>
         requires { (question : Self.Question) × (m : Meaning file) × IsMeaning file m
             × makes question (records_in file m) self }
@@ -58,7 +58,7 @@ pub trait FromRecords {
             → makes question (records_in file m) self → tells question told m) };
 }
 
-/// Takes the records of a file up to what ends it, but for those that are dropped.
+/// Adds the records of a file up to its end, without those that are dropped.
 fn take_records<T: FromRecords, R: Source>(
     taker: &mut T,
     heap: &Heap,
@@ -90,8 +90,8 @@ fn take_records<T: FromRecords, R: Source>(
     }
 }
 
-/// Reads the text of a file from the front of the input, with the reader that did so. What is said is of the bytes that
-/// were taken.
+/// Reads the text of a file from the front of the input, and returns the value and the reader. The contract is about
+/// the bytes that were consumed.
 pub fn read_text<T: FromRecords + Drop, R: Source>(
     heap: &Heap,
     file: TextKind,
@@ -112,7 +112,7 @@ pub fn read_text<T: FromRecords + Drop, R: Source>(
     Ok((taker, reader))
 }
 
-/// Reads a whole input as the text of a file. What is said is of the bytes that were taken.
+/// Reads a whole input as the text of a file. The contract is about the bytes that were consumed.
 fn read_records<T: FromRecords + Drop, R: Source>(
     heap: &Heap,
     file: TextKind,
@@ -134,8 +134,8 @@ fn read_records<T: FromRecords + Drop, R: Source>(
     Ok(taker)
 }
 
-/// Reads a whole input as the text of a file, and tells what is asked of it. Memory that is wanted after the last
-/// record is reported after the magic, a good front of every text.
+/// Reads a whole input as the text of a file, and returns the answer to a question. If memory runs out after the last
+/// record, the fault has the offset after the magic, a good front of every text.
 pub fn read_answer<T: FromRecords + Drop, R: Source>(
     heap: &Heap,
     file: TextKind,

@@ -1,4 +1,4 @@
-//! What the retirements that were read of an archive's text say of its records.
+//! Which records the retirements before them in an archive's text cover.
 
 ghost use Rattle.std.specs.Prelude.{◌≡◌, false, length, IfOk, IfErr, option_map};
 ghost use Rattle.archive_core.specs.Record.{IsRecord};
@@ -10,8 +10,8 @@ use crate::fault::RecordFaultKind;
 use crate::head::ADMISSION_HEAD_LEN;
 use archive_core::{CheckedSlice, RETIREMENT, RETIREMENT_LEN, Retirements, SliceFacts};
 
-/// Whether one of them covers the whole record, by what was found out of its slice. A digest that is asked for is
-/// found out for whoever asks next.
+/// Whether a retirement covers the whole record, by the facts of its slice. If its digest is needed, it is computed and
+/// kept in the facts.
 pub fn retires(retired: &Retirements, bytes: &[u8], found: &mut Option<SliceFacts>) -> bool
     requires { IsFoundOfLast bytes.now found.old }
     ensures retires { IsRecord bytes.now → result ≡ is_covered (set_of retired.now) bytes.now }
@@ -26,7 +26,7 @@ pub fn retires(retired: &Retirements, bytes: &[u8], found: &mut Option<SliceFact
     covered
 }
 
-/// The same of these and of those that it shares with another reader, if there are any.
+/// The same for these and for those that are shared with another reader, if there are any.
 pub fn retires_beside(
     shared: Option<&Retirements>,
     retired: &Retirements,
@@ -57,7 +57,7 @@ fn record_of(bytes: &[u8]) -> [u8; RETIREMENT_LEN]
     record
 }
 
-/// These bytes, where they are the record of a retirement.
+/// The bytes, if they are the record of a retirement.
 pub fn retirement_in(bytes: &[u8]) -> Option<[u8; RETIREMENT_LEN]>
     ensures { result ≡ retirement_in bytes.now }
 {
@@ -67,8 +67,8 @@ pub fn retirement_in(bytes: &[u8]) -> Option<[u8; RETIREMENT_LEN]>
     None
 }
 
-/// Keeps the record if it is a retirement, and answers whether one of them, or a shared one, covers it, by what was
-/// found out of its slice. Refused for want of memory alone.
+/// Adds the record if it is a retirement, and returns whether a retirement, own or shared, covers it, by the facts of
+/// its slice. Fails only if memory runs out.
 pub fn take(
     shared: Option<&Retirements>,
     retired: &mut Retirements,

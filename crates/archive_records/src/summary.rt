@@ -1,4 +1,4 @@
-//! What an archive has, without its slices.
+//! The operations of an archive, without its slices.
 
 ghost use Rattle.std.specs.Prelude.{◌≡◌, map, IfOk};
 ghost use Rattle.std.specs.FinSet as set;
@@ -59,7 +59,7 @@ fn entries_of<A: Archive>(heap: Heap, archive: &A) -> Result<Vec<Entry, Heap>, N
 }
 
 impl Summary {
-    /// The summary of an archive's content. Each slice is hashed once. Refused for want of memory alone.
+    /// The summary of an archive's content. Each slice is hashed once. Fails only if memory runs out.
     pub fn of<A: Archive>(heap: Heap, archive: &A) -> Result<Summary, NoMemory>
         ensures { IfOk result (λ made. made ≡ summary (A.content archive.now)) }
     {
@@ -67,7 +67,7 @@ impl Summary {
         Ok(Summary::of_entries(entries))
     }
 
-    /// The summary of these entries, which may stand in any order, and several times.
+    /// The summary of these entries, which may be in any order and with repeats.
     pub fn of_entries(entries: Vec<Entry, Heap>) -> Summary
         requires { AllByRecursion IsEntry (map entry_bytes entries.items) }
         ensures { result ≡ set.from_list (map entry_bytes entries.items) }
@@ -86,7 +86,7 @@ impl Summary {
         self.entries.len() as u64
     }
 
-    /// Whether the entry is there.
+    /// Whether the summary has the entry.
     pub fn has(&self, entry: &Entry) -> bool
         ensures { result ≡ set.contains self.now (entry_bytes entry.now) }
     {
@@ -136,12 +136,12 @@ impl FromRecords for Named {
     }
 }
 
-/// Reads a summary: the whole input is the text of one, and this is it. The pieces in which the reader gives its
-/// bytes do not matter. A fault leaves no summary, and how much of a faulty input was read is not promised.
+/// Reads a summary from the whole input, and returns it. The sizes of the reader's pieces do not matter. After a fault
+/// there is no summary, and it is not specified how much of the input was read.
 ///
 /// # Errors
 ///
-/// Those of `read_archive` of `archive_read`, in the same order and with the same offsets, but for BadSlice,
+/// Those of `read_archive` of `archive_read`, in the same order and with the same offsets, without BadSlice,
 /// KeyMismatch, TooLarge and Covered: an entry has no slice.
 pub fn read_summary<R: Source>(heap: Heap, r: &mut R) -> Result<Summary, RecordFault>
     ensures { ReadsWhole SummaryFile (λ summary. summary) R.left R.failures r.old r.new result }

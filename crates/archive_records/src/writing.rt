@@ -1,5 +1,5 @@
-//! Archives, summaries and deltas that are written to a sink. Where it failed, it has gained the first `written` bytes
-//! of the text, which are fewer than all.
+//! Writes archives, summaries and deltas to a sink. If it fails, it has accepted the first `written` bytes of the text,
+//! which are fewer than all.
 
 ghost use Rattle.std.specs.Prelude.{◌≡◌, ◌+◌, ◌<◌, ◌≤◌, ◌^◌, ◌++◌, ◌∷◌, [], length, take, map, OnOk, IfOk};
 ghost use Rattle.std.specs.FinSet as set;
@@ -21,17 +21,17 @@ use crate::summary::Summary;
 use archive_core::{Archive, Record, retirement_bytes};
 use byte_device::{Sink, WriteFault, put};
 
-/// How large a text is: its records, and its bytes from the magic to the end record.
+/// The size of a text: the number of its records, and of its bytes from the magic to the end record.
 #[derive(Clone, Copy, Debug, PartialEq, Eq)]
 pub struct Sizes {
     pub records: u64,
     pub bytes: u128,
 }
 
-/// A record of so many bytes at most goes out in one push.
+/// A record of at most this number of bytes is written in one push.
 const SMALL_RECORD: usize = 1024;
 
-/// Lays two parts, one after the other.
+/// Copies two parts into the buffer, one after the other.
 fn lay_both(room: &mut [u8], head: &[u8], body: &[u8])
     requires { length (head.now ++ body.now) ≤ length room.old }
     ensures laid { take (length (head.now ++ body.now)) room.new ≡ head.now ++ body.now }
@@ -70,7 +70,7 @@ fn put_both<W: Sink>(w: &mut W, done: u128, head: &[u8], body: &[u8]) -> Result<
     put(w, done, body)
 }
 
-/// Writes the record after the first `done` bytes of a text, and says how many there are then. No slice is copied.
+/// Writes the record after the first `done` bytes of a text, and returns the new number of bytes. No slice is copied.
 pub fn put_record<W: Sink>(w: &mut W, done: u128, item: &Record<'_>) -> Result<u128, WriteFault>
     requires { done + 2 ^ 33 < 2 ^ 128 }
     ensures puts { Puts W.held W.failures (λ n. n) w.old w.new done (borrowed_bytes item.now) result }
@@ -115,7 +115,7 @@ pub fn put_end<W: Sink>(w: &mut W, done: u128, records: u64) -> Result<Sizes, Wr
     Ok(Sizes { records, bytes })
 }
 
-/// Writes the archive's text, and says how large it is. It takes no memory of its own.
+/// Writes the archive's text, and returns its size. It allocates no memory.
 pub fn write_archive<A: Archive, W: Sink>(archive: &A, w: &mut W) -> Result<Sizes, WriteFault>
     ensures writes { Writes W.held W.failures w.old w.new
         (set.len (A.content archive.now)) (written (A.content archive.now)) result }
@@ -148,7 +148,7 @@ fn put_summary_front<W: Sink>(summary: &Summary, w: &mut W) -> Result<u128, Writ
     put_entries(summary.entries(), w, done)
 }
 
-/// Writes the summary's text, and says how large it is. It takes no memory of its own.
+/// Writes the summary's text, and returns its size. It allocates no memory.
 pub fn write_summary<W: Sink>(summary: &Summary, w: &mut W) -> Result<Sizes, WriteFault>
     ensures { Writes W.held W.failures w.old w.new (set.len summary.now) (summary_text summary.now) result }
 {
@@ -156,8 +156,8 @@ pub fn write_summary<W: Sink>(summary: &Summary, w: &mut W) -> Result<Sizes, Wri
     put_end(w, done, summary.len())
 }
 
-/// Writes the record after the first `done.bytes` bytes of a text, unless the summary names it, and says how many
-/// records and bytes there are then.
+/// Writes the record after the first `done.bytes` bytes of a text, unless the summary has its entry, and returns the
+/// new numbers of records and bytes.
 pub fn put_missing_record<W: Sink>(
     w: &mut W,
     done: Sizes,
@@ -182,8 +182,8 @@ pub fn put_missing_record<W: Sink>(
     })
 }
 
-/// Writes the records that the summary does not name in ascending order after the first `done` bytes of a text, and
-/// says how many records and bytes there are then.
+/// Writes the records that the summary lacks, in ascending order, after the first `done` bytes of a text, and returns
+/// the new numbers of records and bytes.
 fn put_missing<A: Archive, W: Sink>(
     archive: &A,
     summary: &Summary,
@@ -206,7 +206,7 @@ fn put_missing<A: Archive, W: Sink>(
     Ok(sizes)
 }
 
-/// Writes the magic of an archive and the records that the summary does not name.
+/// Writes the magic of an archive and the records that the summary lacks.
 fn put_delta_front<A: Archive, W: Sink>(
     archive: &A,
     summary: &Summary,
@@ -221,8 +221,8 @@ fn put_delta_front<A: Archive, W: Sink>(
     put_missing(archive, summary, w, done)
 }
 
-/// Writes the text of the archive of those operations whose entries the summary does not have, and says how large it
-/// is. Each slice is hashed once, none is copied, and it takes no memory of its own.
+/// Writes the text of the archive of those operations whose entries are not in the summary, and returns its size. Each
+/// slice is hashed once, none is copied, and it allocates no memory.
 pub fn write_delta<A: Archive, W: Sink>(
     archive: &A,
     summary: &Summary,

@@ -5,24 +5,25 @@ use Rattle.std.specs.IoError.{error_kind}
 use Rattle.std.specs.declared.io.ErrorKind.TheVariants.{OutOfMemory}
 use Rattle.byte_device.specs.declared.disks.CannotOpen.{CannotOpen}
 
--- the path of a file, as the system is given it
+-- the path of a file, as it is passed to the system
 abbrev pub Path : Type 0
 Path = List ℕ
 
--- what is known of the file at a path: nothing; that it is the system's, at this path; that there is none; or its bytes
+-- the known state of the file at a path: unknown; the file of the system at this path; absent; or present, with its
+-- bytes
 pub data FileAt : Type 0 where
   Unknown : FileAt
   At : (path : Path) → FileAt
   Missing : FileAt
   Holding : (bytes : List ℕ) → FileAt
 
--- what is known of a file that has these bytes, or is not there
+-- the known state of a file with these bytes, or of an absent one
 abbrev pub file_of : Option (List ℕ) → FileAt
 file_of None = Missing
 file_of (Some bytes) = Holding bytes
 
--- The input is what opening a file gives, of which this is known. Of the system's it is the file that was opened at
--- this path, or none, and then not for want of memory.
+-- The result of opening a file with this known state. For a file of the system it is the file that was opened at this
+-- path, or a failure for another reason than memory.
 abbrev pub IsOpened : {S : Type 0} → (S → Option (List ℕ)) → (S → ℕ) → (S → List Path) → FileAt → Result S CannotOpen
     → Type 0
 IsOpened left failures path_of Unknown input = ⊤
@@ -32,10 +33,10 @@ IsOpened left failures path_of Missing input = IsErr input
 IsOpened left failures path_of (Holding bytes) input =
     MatchResult input (λ source. (left source ≡ Some bytes) × (failures source ≡ 0)) (λ _. ⊥)
 
--- the paths that were opened, where they are known, and these after them
+-- the paths that were opened, if known, followed by these
 abbrev pub opened_with : Option (List Path) → List Path → Option (List Path)
 opened_with opened paths = option_map (λ before. before ++ paths) opened
 
--- an output whose file cannot be created
+-- the text for an output whose file cannot be created
 unfoldable pub cannot_create_text : List ℕ
 cannot_create_text = codes "output: cannot create"

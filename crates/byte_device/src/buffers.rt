@@ -14,7 +14,7 @@ pub struct Bytes<'a> {
 }
 
 impl<'a> Bytes<'a> {
-    /// A device that will give these bytes.
+    /// Creates a device that returns these bytes.
     pub fn new(bytes: &'a [u8]) -> Self
         ensures left { ⟦<Bytes<'a> as Source>⟧.left result ≡ Some bytes.now }
         ensures failures { ⟦<Bytes<'a> as Source>⟧.failures result ≡ 0 }
@@ -28,7 +28,7 @@ impl<'a> Source for Bytes<'a> {
 
     ghost failures = { λ _. 0 };
 
-    /// Fills `buf`, or takes all that is left where that is less.
+    /// Fills `buf`, or reads all bytes that are left if they are fewer.
     fn pull(&mut self, buf: &mut [u8]) -> Result<usize, Failed>
         ensures bound { IfOk result (λ n. n ≤ length buf.new) }
         ensures bytes { ReadConsumes (Some self.old.rest.now) (Some self.new.rest.now) result buf.new }
@@ -44,7 +44,7 @@ impl<'a> Source for Bytes<'a> {
     }
 }
 
-/// Bytes in memory, which grows with them.
+/// Bytes in memory; the memory grows with them.
 #[derive(Drop)]
 pub struct Grown {
     bytes: Vec<u8, Heap>,
@@ -52,7 +52,7 @@ pub struct Grown {
 }
 
 impl Grown {
-    /// A device that holds no byte. It takes no memory before its first push.
+    /// Creates a device without bytes. It allocates no memory before its first push.
     pub fn new(heap: Heap) -> Self
         ensures held { ⟦<Grown as Sink>⟧.held result ≡ Some [] }
         ensures failures { ⟦<Grown as Sink>⟧.failures result ≡ 0 }
@@ -63,14 +63,14 @@ impl Grown {
         }
     }
 
-    /// The bytes that it holds.
+    /// The bytes of the device.
     pub fn as_slice(&self) -> &[u8]
         ensures { ⟦<Grown as Sink>⟧.held self.now ≡ Some result.now }
     {
         &self.bytes
     }
 
-    /// The bytes that it held.
+    /// The bytes of the device, owned.
     pub fn into_bytes(self) -> Vec<u8, Heap>
         ensures { ⟦<Grown as Sink>⟧.held self ≡ Some result.items }
     {
@@ -83,8 +83,7 @@ impl Sink for Grown {
 
     ghost failures = { λ s. s.failures };
 
-    /// Takes all of `bytes`. It fails only where its growth was refused, or its count of failures
-    /// is at its greatest.
+    /// Accepts all of `bytes`. It fails only if memory runs out, or if its count of failures is at its greatest.
     fn push(&mut self, bytes: &[u8]) -> Result<usize, Failed>
         ensures bound { IfOk result (λ n. n ≤ length bytes.now) }
         ensures some { 0 < length bytes.now → IfOk result (λ n. 0 < n) }

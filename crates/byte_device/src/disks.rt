@@ -7,7 +7,7 @@ use std::io;
 /// An input could not be opened.
 #[derive(Clone, Copy, Debug)]
 pub struct CannotOpen {
-    /// What the system said.
+    /// The error of the system.
     pub reason: io::Error,
 }
 

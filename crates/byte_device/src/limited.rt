@@ -1,4 +1,4 @@
-//! Devices for tests: they give or take a part at a time, and fail where a test wants it.
+//! Devices for tests: they read or write a part at a time, and fail at a given limit.
 
 ghost use Rattle.std.specs.Prelude.{◌≡◌, ◌<◌, ◌≤◌, ◌+◌, ◌⊎◌, ◌↔◌, Some, [], IfOk, IsErr};
 ghost use Rattle.std.specs.Prelude.{OnErr, length, min, vec_capacity, MatchResult};
@@ -8,8 +8,8 @@ ghost use Rattle.byte_device.specs.Devices.{CountsFailure, most_failures};
 use crate::{Failed, Sink, Source};
 use memory::Heap;
 
-/// The bytes of a slice, a few at a time. It fails at each pull once it gave as many bytes as its
-/// limit, also at the end of the slice.
+/// The bytes of a slice, a few at a time. After it has returned as many bytes as its limit, each pull fails, also at
+/// the end of the slice.
 #[derive(Drop)]
 pub struct Pieces<'a> {
     rest: &'a [u8],
@@ -22,8 +22,8 @@ pub struct Pieces<'a> {
 impl<'a> Pieces<'a> {
     ghost use Rattle.byte_device.specs.Limits.{piece_size, pieces_limit};
 
-    /// A device that will give these bytes, at most `size` at a time, and `limit` in all before it
-    /// fails. With the limit `usize::MAX` it comes to the end of any slice.
+    /// Creates a device that returns these bytes, at most `size` at a time, and at most `limit` in all before it fails.
+    /// With the limit `usize::MAX` it reaches the end of any slice.
     pub fn new(bytes: &'a [u8], size: usize, limit: usize) -> Self
         requires { 0 < size }
         ensures left { ⟦<Pieces<'a> as Source>⟧.left result ≡ Some bytes.now }
@@ -52,7 +52,7 @@ impl<'a> Source for Pieces<'a> {
         ensures bytes { ReadConsumes (Some self.old.rest.now) (Some self.new.rest.now) result buf.new }
         ensures count { CountsFailure self.old.failures self.new.failures result }
 
-        // It fails exactly where its limit is reached, or its count of failures is at its greatest.
+        // It fails exactly if its limit is reached, or its count of failures is at its greatest.
         ensures fails { IsErr result ↔ ((pieces_limit self.old ≡ 0) ⊎ (self.old.failures ≡ most_failures)) }
         ensures piece { IfOk result (λ n. n ≡
             min (min (length self.old.rest.now) (length buf.new))
@@ -79,8 +79,7 @@ impl<'a> Source for Pieces<'a> {
     }
 }
 
-/// Bytes in memory, up to a limit. It fails at each push once it took as many bytes as its limit,
-/// and where its growth was refused.
+/// Bytes in memory, up to a limit. A push fails after as many bytes as the limit, and if memory runs out.
 #[derive(Drop)]
 pub struct Short {
     bytes: Vec<u8, Heap>,
@@ -91,7 +90,7 @@ pub struct Short {
 impl Short {
     ghost use Rattle.byte_device.specs.Limits.{short_limit};
 
-    /// A device that holds no byte, and takes `limit` before it fails.
+    /// Creates a device without bytes, which accepts `limit` bytes before it fails.
     pub fn new(heap: Heap, limit: usize) -> Self
         ensures held { ⟦<Short as Sink>⟧.held result ≡ Some [] }
         ensures failures { ⟦<Short as Sink>⟧.failures result ≡ 0 }
@@ -104,7 +103,7 @@ impl Short {
         }
     }
 
-    /// The bytes that it holds.
+    /// The bytes of the device.
     pub fn as_slice(&self) -> &[u8]
         ensures { ⟦<Short as Sink>⟧.held self.now ≡ Some result.now }
     {
@@ -125,8 +124,8 @@ impl Sink for Short {
         ensures bytes { WriteAppends (Some self.old.bytes.items) (Some self.new.bytes.items) result bytes.now }
         ensures count { CountsFailure self.old.failures self.new.failures result }
 
-        // It fails where its limit is reached, and else only where its growth was refused or its
-        // count of failures is at its greatest.
+        // It fails if its limit is reached, and otherwise only if memory runs out or its count of failures is at its
+        // greatest.
         ensures reached { short_limit self.old ≡ 0 → IsErr result }
         ensures refused { OnErr result (
             (short_limit self.old ≡ 0)

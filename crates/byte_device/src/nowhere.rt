@@ -4,7 +4,7 @@ ghost use Rattle.std.specs.Prelude.{◌<◌, None};
 
 use crate::{Failed, Sink};
 
-/// Takes all bytes, keeps none, and never fails.
+/// Accepts all bytes, keeps none, and never fails.
 #[derive(Drop)]
 pub struct Nowhere;
 

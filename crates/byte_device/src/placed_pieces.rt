@@ -1,4 +1,4 @@
-//! A device for tests: it gives a part at a time, and fails where a test wants it.
+//! A device for tests: it reads a part at a time, and fails at a given limit.
 
 ghost use Rattle.std.specs.Prelude.{◌≡◌, ◌<◌, ◌≤◌, ◌+◌, ◌-◌, ◌⊎◌, ◌↔◌, Some, IfOk, IsErr, OnErr, length, min};
 ghost use Rattle.std.specs.Prelude.{MatchResult};
@@ -7,7 +7,7 @@ ghost use Rattle.byte_device.specs.Places.{HasSize, TakenAt};
 
 use crate::{Failed, Placed};
 
-/// The bytes of a slice, a few at a time. It fails at each call once it gave as many bytes as its limit.
+/// The bytes of a slice, a few at a time. After it has returned as many bytes as its limit, each call fails.
 #[derive(Drop)]
 pub struct PlacedPieces<'a> {
     bytes: &'a [u8],
@@ -20,7 +20,8 @@ pub struct PlacedPieces<'a> {
 impl<'a> PlacedPieces<'a> {
     ghost use Rattle.byte_device.specs.Limits.{placed_piece_size, placed_pieces_limit};
 
-    /// A device that has these bytes, and gives at most `size` at a time, and `limit` in all before it fails.
+    /// Creates a device with these bytes, which returns at most `size` at a time, and at most `limit` in all before it
+    /// fails.
     pub fn new(bytes: &'a [u8], size: usize, limit: usize) -> Self
         requires { 0 < size }
         ensures whole { ⟦<PlacedPieces<'a> as Placed>⟧.whole result ≡ Some bytes.now }
@@ -56,7 +57,7 @@ impl<'a> Placed for PlacedPieces<'a> {
         ensures count { CountsFailure self.old.failures self.new.failures result }
         ensures unread { OnErr result (FailedIn self.old.failures self.new.failures) }
 
-        // It fails exactly where its limit is reached, or its count of failures is at its greatest.
+        // It fails exactly if its limit is reached, or its count of failures is at its greatest.
         ensures fails { IsErr result ↔ ((placed_pieces_limit self.old ≡ 0) ⊎ (self.old.failures ≡ most_failures)) }
         ensures piece { IfOk result (λ n. n ≡
             min (min (length self.old.bytes.now - at) (length buf.new))
@@ -88,7 +89,7 @@ impl<'a> Placed for PlacedPieces<'a> {
         ensures count { CountsFailure self.old.failures self.new.failures result }
         ensures unmeasured { OnErr result (FailedIn self.old.failures self.new.failures) }
 
-        // It fails exactly where `take_at` does.
+        // It fails exactly if `take_at` does.
         ensures fails { IsErr result ↔ ((placed_pieces_limit self.old ≡ 0) ⊎ (self.old.failures ≡ most_failures)) }
         ensures limit { placed_pieces_limit self.new ≡ placed_pieces_limit self.old }
         ensures piece { placed_piece_size self.new ≡ placed_piece_size self.old }

@@ -1,4 +1,4 @@
-//! So many bytes that are read from a place.
+//! Reads a number of bytes from an offset.
 
 ghost use Rattle.std.specs.Prelude.{◌≡◌, ◌+◌, ◌^◌, ◌<◌, ◌≤◌, length, take, Err, IfOk, MatchOption, OnOk};
 ghost use Rattle.byte_device.specs.Devices.{FailedIn, FailsWithin};
@@ -7,9 +7,9 @@ ghost use Rattle.byte_device.specs.Places.{EndsBefore, Stands};
 use crate::{Failed, PIECE_LEN, Placed, ReadFault, make_room};
 use memory::{Heap, NoMemory};
 
-/// Reads `count` bytes from the place on; none where fewer stand there.
+/// Reads `count` bytes from the offset; returns none if there are fewer.
 ///
-/// The memory grows with the bytes that came, as by [`make_room`], and never past the number that is asked for.
+/// The memory grows with the bytes that were read, as in [`make_room`], and never beyond `count`.
 pub fn read_at<P: Placed>(
     heap: Heap,
     device: &mut P,
@@ -41,7 +41,7 @@ pub fn read_at<P: Placed>(
     Ok(Some(bytes))
 }
 
-// Makes the bytes longer than the first `filled` where they are not, but no longer than `most`.
+// Extends the bytes beyond the first `filled`, if they are not longer, up to at most `most`.
 fn lengthen(bytes: &mut Vec<u8, Heap>, filled: usize, most: usize) -> Result<(), NoMemory>
     requires filled { filled ≤ length bytes.old.items }
     requires within { length bytes.old.items ≤ most }

@@ -1,4 +1,4 @@
-//! Bytes of the readers of `std` that seek.
+//! A device over the readers of `std` that seek.
 
 ghost use Rattle.std.specs.Prelude.{◌≡◌, ◌==◌, ◌+◌, ◌<◌, ◌≤◌, IfOk, Some, is_some, length, not};
 ghost use Rattle.byte_device.specs.Devices.{most_failures};
@@ -6,9 +6,10 @@ ghost use Rattle.byte_device.specs.Devices.{most_failures};
 use crate::{Failed, Placed};
 use std::io::{self, Read, Seek, SeekFrom};
 
-/// The bytes of a reader that seeks, as a file. Each error of the reader, `Interrupted` too, is a failure.
+/// The bytes of a reader that seeks, for example a file. Each error of the reader, including `Interrupted`, is a
+/// failure.
 ///
-/// Nothing is known of the bytes: no contract of `std` says what a read gives after a seek.
+/// Nothing is known of the bytes: no contract of `std` specifies what a read returns after a seek.
 #[derive(Drop)]
 pub struct Placing<R> {
     reader: R,
@@ -19,7 +20,7 @@ pub struct Placing<R> {
 }
 
 impl<R: Read + Seek + Drop> Placing<R> {
-    /// A device over the reader.
+    /// Creates a device over the reader.
     pub fn new(reader: R) -> Self
         ensures { ⟦<Placing<R> as Placed>⟧.failures result ≡ 0 }
     {
@@ -30,7 +31,7 @@ impl<R: Read + Seek + Drop> Placing<R> {
         }
     }
 
-    /// The reader's last error, if it had one: it has one exactly if the device failed.
+    /// The reader's last error. There is one exactly if the device failed.
     pub fn reason(&self) -> Option<io::Error>
         ensures reason { result ≡ self.now.reason }
         ensures failed { is_some result ≡ not (⟦<Placing<R> as Placed>⟧.failures self.now == 0) }
@@ -49,7 +50,7 @@ impl<R: Read + Seek + Drop> Placing<R> {
         Failed
     }
 
-    // Takes bytes from the place on.
+    // Reads bytes from the offset.
     fn read_from(&mut self, at: u64, buf: &mut [u8]) -> io::Result<usize>
         ensures bound { IfOk result (λ n. n ≤ length buf.new) }
         ensures failures { self.new.failures ≡ self.old.failures }

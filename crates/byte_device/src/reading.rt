@@ -1,4 +1,4 @@
-//! Bytes that are taken from a source to its end.
+//! Reads a source to its end.
 
 ghost use Rattle.std.specs.Prelude.{◌≡◌, ℕ, List, [], ◌∷◌, ◌<◌, ◌≤◌, length, take};
 ghost use Rattle.std.specs.Prelude.{true, false, OnOk, OnErr, IfOk, IfSome, Err};
@@ -13,11 +13,11 @@ use memory::{Heap, NoMemory};
 pub enum ReadFault {
     /// The source failed in this call.
     Device,
-    /// A growth of the memory was refused.
+    /// Memory ran out.
     OutOfMemory,
 }
 
-/// Whether the source is at its end. Where it is not, its next byte is taken.
+/// Whether the source is at its end. If it is not, its next byte is consumed.
 pub fn is_at_end<R: Source>(r: &mut R) -> Result<bool, Failed>
     ensures end { IfOk result (λ end. end ≡ true → Consumes (R.left r.old) (R.left r.new) []) }
     ensures at_end { IfOk result (λ end. end ≡ true → IsAtEnd (R.left r.new)) }
@@ -31,18 +31,17 @@ pub fn is_at_end<R: Source>(r: &mut R) -> Result<bool, Failed>
     Ok(n == 0)
 }
 
-/// Takes all the bytes that the source has left. Those that were taken before a fault are lost.
+/// Reads all the bytes that the source has left. Bytes that were read before a fault are lost.
 ///
-/// They come straight into the memory that is handed out, which has room for 64 KiB at first, and
-/// grows as by [`make_room`].
+/// They are read straight into the returned memory, which has room for 64 KiB at first, and grows as in [`make_room`].
 pub fn read_to_end<R: Source>(heap: Heap, r: &mut R) -> Result<Vec<u8, Heap>, ReadFault>
-    // The result is all that was left.
+    // The result is all bytes that were left.
     ensures taken { IfOk result (λ bytes. Consumes (R.left r.old) (R.left r.new) bytes.items) }
     ensures at_end { OnOk result (IsAtEnd (R.left r.new)) }
     ensures whole { IfOk result (λ bytes. IfSome (R.left r.old) (λ left. bytes.items ≡ left)) }
     ensures unfailed { OnOk result (R.failures r.new ≡ R.failures r.old) }
 
-    // What is lost are first bytes of those that were left.
+    // The lost bytes are the first of those that were left.
     ensures lost { OnErr result ((bytes : List ℕ) × Consumes (R.left r.old) (R.left r.new) bytes) }
     ensures device { result ≡ Err ReadFault.Device → FailedIn (R.failures r.old) (R.failures r.new) }
     ensures memory { result ≡ Err ReadFault.OutOfMemory → R.failures r.new ≡ R.failures r.old }
@@ -65,7 +64,7 @@ pub fn read_to_end<R: Source>(heap: Heap, r: &mut R) -> Result<Vec<u8, Heap>, Re
     }
 }
 
-// Makes the bytes longer than the first `filled` where they are not. Each byte is set to 0 once.
+// Extends the bytes beyond the first `filled`, if they are not longer. Each byte is set to 0 once.
 fn lengthen(bytes: &mut Vec<u8, Heap>, filled: usize) -> Result<(), NoMemory>
     requires { filled ≤ length bytes.old.items }
     ensures room { OnOk result (filled < length bytes.new.items) }

@@ -6,7 +6,7 @@ ghost use Rattle.byte_device.specs.Devices.{most_failures};
 use crate::{Failed, Sink, Source};
 use std::io::{self, Read, Write};
 
-/// The bytes of a reader. Each error of the reader, `Interrupted` too, is a failure.
+/// The bytes of a reader. Each error of the reader, including `Interrupted`, is a failure.
 #[derive(Drop)]
 pub struct Reading<R> {
     reader: R,
@@ -17,7 +17,7 @@ pub struct Reading<R> {
 }
 
 impl<R: Read + Drop> Reading<R> {
-    /// A device that gives the reader's bytes from here on.
+    /// Creates a device that returns the bytes that the reader has left.
     pub fn new(reader: R) -> Self
         ensures left { ⟦<Reading<R> as Source>⟧.left result ≡ R.remaining reader }
         ensures failures { ⟦<Reading<R> as Source>⟧.failures result ≡ 0 }
@@ -29,7 +29,7 @@ impl<R: Read + Drop> Reading<R> {
         }
     }
 
-    /// The reader's last error, if it had one: it has one exactly if the device failed.
+    /// The reader's last error. There is one exactly if the device failed.
     pub fn reason(&self) -> Option<io::Error>
         ensures reason { result ≡ self.now.reason }
         ensures failed { is_some result ≡ not (⟦<Reading<R> as Source>⟧.failures self.now == 0) }
@@ -66,20 +66,20 @@ impl<R: Read + Drop> Source for Reading<R> {
     }
 }
 
-/// The bytes of a writer. Each error of the writer, and a write of bytes that takes none, is a failure.
+/// The bytes of a writer. Each error of the writer, and a write that accepts no byte, is a failure.
 ///
-/// It never flushes: a writer that keeps bytes back is flushed by its owner.
+/// It never flushes: the owner of a writer with a buffer flushes it.
 #[derive(Drop)]
 pub struct Writing<W> {
     writer: W,
     failures: u64,
     reason: Option<io::Error>,
-    // It failed if there is a reason. A write that takes no byte has none.
+    // If there is a reason, it failed. A write that accepts no byte has none.
     ghost said: { failures ≡ 0 → is_some reason ≡ false },
 }
 
 impl<W: Write + Drop> Writing<W> {
-    /// A device that takes bytes after those of the writer.
+    /// Creates a device that appends bytes to those of the writer.
     pub fn new(writer: W) -> Self
         ensures held { ⟦<Writing<W> as Sink>⟧.held result ≡ W.contents writer }
         ensures failures { ⟦<Writing<W> as Sink>⟧.failures result ≡ 0 }
@@ -91,7 +91,7 @@ impl<W: Write + Drop> Writing<W> {
         }
     }
 
-    /// The writer's last error, if that was how it failed last.
+    /// The writer's last error, if the last failure was an error.
     pub fn reason(&self) -> Option<io::Error>
         ensures reason { result ≡ self.now.reason }
         ensures unfailed { ⟦<Writing<W> as Sink>⟧.failures self.now ≡ 0 → is_some result ≡ false }

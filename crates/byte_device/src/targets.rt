@@ -1,23 +1,23 @@
-//! What takes the bytes of an output, and where they are published when they are whole.
+//! The draft of an output, and the target at which it is published when it is complete.
 
 ghost use Rattle.std.specs.Prelude.{◌≡◌, ℕ, List, [], Option, Some, OnErr, OnOk};
 ghost use Rattle.byte_device.specs.Devices.{CountsFailure};
 
 use crate::{Failed, Sink};
 
-/// Where an output is published.
+/// The place at which an output is published.
 pub trait Target {
-    /// What takes the bytes before.
+    /// The sink for the bytes until then.
     type Draft: Sink;
 
-    // The text that was published last, if one was, and where it is known.
+    // The text that was published last, if there is one and it is known.
     ghost published: { Self → Option (List ℕ) };
 
-    // How often a call failed.
+    // The number of failed calls.
     ghost failures: { Self → ℕ };
 
-    /// Replaces what is there by what the draft holds, in one step. The draft holds nothing then. Where this
-    /// fails, what is there stays.
+    /// Replaces the published text by the draft's bytes, in one step. The draft is empty afterwards. If this fails, the
+    /// published text stays.
     fn publish(&mut self, draft: &mut Self::Draft) -> Result<(), Failed>
         ensures published { OnOk result (published self.new ≡ Self.Draft.held draft.old) }
         ensures emptied { OnOk result (Self.Draft.held draft.new ≡ Some []) }
@@ -27,7 +27,7 @@ pub trait Target {
         ensures count { CountsFailure (failures self.old) (failures self.new) result };
 }
 
-/// An output: the draft that takes its bytes, and the target at which it is published when it is whole.
+/// An output: the draft that is written, and the target at which it is published when it is complete.
 #[derive(Drop)]
 pub struct Output<D, T> {
     pub draft: D,

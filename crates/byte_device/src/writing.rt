@@ -1,4 +1,4 @@
-//! Texts that are given to a sink whole.
+//! Writes whole texts to a sink.
 
 ghost use Rattle.std.specs.Prelude.{◌≡◌, ◌+◌, ◌^◌, ◌<◌, length, OnOk, IfErr, OnErr};
 ghost use Rattle.std.specs.Io.KnownBytes.{Appends};
@@ -7,13 +7,13 @@ ghost use Rattle.byte_device.specs.Writes.{Puts, WritesFirst};
 
 use crate::{Failed, Sink};
 
-/// The writer failed after it had taken exactly this many first bytes of the text.
+/// The writer failed after it had accepted exactly this number of first bytes of the text.
 #[derive(Clone, Copy, Debug, PartialEq, Eq)]
 pub struct WriteFault {
     pub written: u128,
 }
 
-/// Gives all the bytes to the writer.
+/// Writes all the bytes.
 pub fn push_all<W: Sink>(w: &mut W, bytes: &[u8]) -> Result<(), WriteFault>
     ensures ok { OnOk result (Appends (W.held w.old) (W.held w.new) bytes.now) }
     ensures unfailed { OnOk result (W.failures w.new ≡ W.failures w.old) }
@@ -34,8 +34,8 @@ pub fn push_all<W: Sink>(w: &mut W, bytes: &[u8]) -> Result<(), WriteFault>
     Ok(())
 }
 
-/// Gives the writer the bytes that stand after the first `written` bytes of a text, and says how
-/// many bytes of the text it has then. A fault, too, counts from the beginning of the text.
+/// Writes the bytes that follow the first `written` bytes of a text, and returns how many bytes of the text are written
+/// then. The number in a fault, too, counts from the beginning of the text.
 pub fn put<W: Sink>(w: &mut W, written: u128, bytes: &[u8]) -> Result<u128, WriteFault>
     requires { written + length bytes.now < 2 ^ 128 }
     ensures { Puts W.held W.failures (λ n. n) w.old w.new written bytes.now result }

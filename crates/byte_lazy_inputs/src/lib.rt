@@ -1,4 +1,4 @@
-//! Inputs that are opened with the first call for their bytes: [`Opens`] says what came of that.
+//! Inputs that are opened by the first call for their bytes: [`Opens`] reports the result.
 #![tactic(auto)]
 
 mod openings;

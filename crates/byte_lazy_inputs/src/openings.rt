@@ -1,20 +1,20 @@
-//! What came of opening an input.
+//! The result of opening an input.
 
 ghost use Rattle.std.specs.Prelude.{◌≡◌};
 ghost use Rattle.byte_lazy_inputs.specs.declared.openings.Opening.{Opening};
 
-/// What came of opening an input.
+/// The result of opening an input.
 #[derive(Clone, Copy, Debug, PartialEq, Eq)]
 pub enum Opening {
-    /// It was opened, or no byte was asked for.
+    /// It was opened, or no byte was requested.
     Fine,
     /// It could not be opened.
     Refused,
-    /// There was no memory to open it.
+    /// Memory ran out when it was opened.
     OutOfMemory,
 }
 
-/// An input that is opened with the first call for its bytes, and says what came of that.
+/// An input that is opened by the first call for its bytes, and reports the result.
 pub trait Opens {
     ghost opening_of: { Self → Opening };
 

@@ -7,8 +7,8 @@ use Rattle.cli_arguments.specs.declared.commands.Form.TheVariants as forms
 use Rattle.cli_arguments.specs.declared.commands.Kind.TheVariants as kinds
 use Rattle.cli_arguments.specs.declared.commands.Role.TheVariants as roles
 
--- how often an argument stands in a line: one word; the last words; the word after an option, at most once; a word
--- after each option of a name, any number of times; or an option without a word, at most once
+-- the number of words of an argument in a line: one word; the last words; the word after an option, at most once; a
+-- word after each option of a name, any number of times; or an option without a word, at most once
 pub data Count : Type 0 where
   Once : Count
   Several : Count
@@ -54,15 +54,15 @@ form_of (roles.Reads kind) = forms.Plain
 form_of roles.Writes = forms.Plain
 form_of (roles.Says form) = form
 
--- what stands at an argument: one, several, which may be none after options, one that may be left out, or, without a
--- word, whether its flag stands there
+-- the values of an argument: one; several, which may be none after options; one that may be omitted; or, without a
+-- word, whether its flag is present
 pub data Amount (X : Type 0) : Type 0 where
   one : X → Amount X
   several : List X → Amount X
   perhaps : Option X → Amount X
   flag : Bool → Amount X
 
--- its values, by the form of its words
+-- the values of an argument, by the form of its words
 pub data Values : Type 0 where
   texts : Amount Text → Values
   uuids : Amount (List ℕ) → Values
@@ -70,11 +70,11 @@ pub data Values : Type 0 where
   digests : Amount Digest → Values
   numbers : Amount ℕ → Values
 
--- one word that stands for itself
+-- one word that is its own value
 abbrev pub text : Text → Values
 text word = texts (one word)
 
--- as many as the argument asks for
+-- the values have the number that the argument requires
 abbrev pub is_counted : {X : Type 0} → Count → Amount X → Bool
 is_counted Once (one x) = true
 is_counted Several (several (x ∷ xs)) = true
@@ -83,7 +83,7 @@ is_counted (Often option) (several xs) = true
 is_counted (Flag option) (flag is_set) = true
 is_counted _ _ = false
 
--- of its form
+-- the values have this form and number
 abbrev pub is_formed : Form → Count → Values → Bool
 is_formed forms.Plain count (texts xs) = is_counted count xs
 is_formed forms.Uuid count (uuids xs) = is_counted count xs
@@ -92,7 +92,7 @@ is_formed forms.Digest count (digests xs) = is_counted count xs
 is_formed forms.Number count (numbers xs) = is_counted count xs
 is_formed _ _ _ = false
 
--- each of these arguments has values of its own
+-- each of these arguments has its values
 abbrev pub are_values_of : List Argument → List Values → Bool
 are_values_of [] [] = true
 are_values_of (a ∷ rest) (v ∷ vs) = is_formed (form_of a.role) a.count v && are_values_of rest vs

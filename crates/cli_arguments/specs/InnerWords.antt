@@ -1,4 +1,4 @@
--- The words of an argument, as definitions see them.
+-- The words of an argument, as values of the definitions.
 use Rattle.std.specs.Prelude.{[], None, Some, map}
 use Rattle.clap.specs.Words.{Text}
 use Rattle.cli_arguments.specs.Arguments.{Amount, flag, one, perhaps, several}

@@ -1,4 +1,4 @@
--- The inputs of a line, by what they are.
+-- The inputs of a line, by their kinds.
 use Rattle.std.specs.Prelude.{List, [], ◌∷◌, ◌++◌, map, if◌then◌else◌}
 use Rattle.clap.specs.Words.{Text}
 use Rattle.cli_arguments.specs.Arguments.{Argument, Values, is_kind}
@@ -8,7 +8,7 @@ use Rattle.cli_arguments.specs.declared.commands.Role.TheVariants as roles
 use Rattle.cli_arguments.specs.declared.inputs.Inputs.{Inputs as InputsOfProgram}
 use Rattle.cli_arguments.specs.{Lines.Line, Lines.texts_of, Table.arguments_named}
 
--- those of each kind in the order of the words
+-- the inputs of each kind, in the order of the words
 pub record Inputs (X : Type 0) : Type 0 where
   pub archives : List X
   pub indexes : List X
@@ -27,7 +27,7 @@ of_kind kinds.Summary inputs = inputs.summaries
 of_kind kinds.Script inputs = inputs.scripts
 of_kind kinds.Frames inputs = inputs.frames
 
--- those of the program, as definitions see them
+-- the inputs of the program, as values of the definitions
 abbrev pub inputs_view : {S : Type 0} → InputsOfProgram S → Inputs S
 inputs_view inputs = record {
   archives = inputs.archives.items;
@@ -52,7 +52,7 @@ kinds_by _ _ = []
 abbrev pub kinds_of : Line → List Kind
 kinds_of line = kinds_by (arguments_named line.name) line.values
 
--- of inputs, each of which has its kind, those of one kind
+-- the inputs of one kind, among inputs with these kinds
 abbrev pub picked : {X : Type 0} → Kind → List Kind → List X → List X
 picked kind (k ∷ ks) (x ∷ xs) = if is_kind kind k then x ∷ picked kind ks xs else picked kind ks xs
 picked kind _ _ = []

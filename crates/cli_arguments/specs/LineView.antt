@@ -1,4 +1,4 @@
--- A line of the program, as definitions see it.
+-- A line of the program, as a value of the definitions.
 use Rattle.std.specs.Prelude.{map, string_bytes}
 use Rattle.cli_arguments.specs.{ValuesView.values_view, Lines.Line, declared.lines.Line.Line as LineOfProgram}
 

@@ -1,4 +1,4 @@
--- What a command line asks for.
+-- The command and the values of a command line.
 use Rattle.std.specs.Prelude.{Bool, true, false, not, ◌&&◌, ◌||◌, List, [], ◌∷◌, ◌++◌, Contains}
 use Rattle.std.specs.Prelude.{Option, Some, None, IfSome, is_some, option_and_then, option_map, slice_get}
 use Rattle.std.specs.Prelude.{if◌then◌else◌, codes, unwrap_or}
@@ -13,7 +13,7 @@ use Rattle.cli_arguments.specs.{Arguments.texts, Arguments.uuids, Arguments.writ
 use Rattle.cli_arguments.specs.Table.{Signature, arguments_named, signature_named}
 use Rattle.cli_arguments.specs.declared.commands.Form.TheVariants as forms
 
--- the command of this name, with the values of its arguments in the order of the table; a path is the word itself
+-- the command with this name, and the values of its arguments in the order of the table; a path is the word itself
 pub record Line : Type 0 where
   pub name : Text
   pub values : List Values
@@ -30,7 +30,7 @@ texts_of (texts (several words)) = words
 texts_of (texts (perhaps (Some text))) = text ∷ []
 texts_of _ = []
 
--- the texts of the arguments whose role is wanted
+-- the texts of the arguments with these roles
 abbrev pub texts_by : (Role → Bool) → List Argument → List Values → List Text
 texts_by wants (a ∷ rest) (v ∷ vs) =
     if wants a.role then texts_of v ++ texts_by wants rest vs else texts_by wants rest vs
@@ -40,7 +40,7 @@ texts_by wants _ _ = []
 abbrev pub inputs_of : Line → List Text
 inputs_of line = texts_by reads (arguments_named line.name) line.values
 
--- those of one kind
+-- the paths of one kind
 abbrev pub inputs_of_kind : Kind → Line → List Text
 inputs_of_kind kind line = texts_by (reads_kind kind) (arguments_named line.name) line.values
 
@@ -48,7 +48,7 @@ inputs_of_kind kind line = texts_by (reads_kind kind) (arguments_named line.name
 abbrev pub out_of : Line → Option Text
 out_of line = slice_get (texts_by writes (arguments_named line.name) line.values) 0
 
--- OUT is no input, as text
+-- OUT is not an input, compared as text
 abbrev pub KeepsInputs : Line → Type 0
 KeepsInputs line = IfSome (out_of line) (λ out. ¬ Contains (inputs_of line) out)
 
@@ -58,42 +58,42 @@ KeepsInputs line = IfSome (out_of line) (λ out. ¬ Contains (inputs_of line) ou
 unfoldable pub are_accepted : List Text → Bool
 are_accepted words = takes symarch_command words
 
--- the kinds of error that it gives at them
+-- the kinds of error that the program's command has for them
 unfoldable pub error_kinds : List Text → Kinds
 error_kinds words = fault_of symarch_command words
 
--- the subcommand that they name, and what stands at its names
+-- the subcommand that they name, and the values at its names
 unfoldable pub named_command : List Text → Option (Text × List Row)
 named_command words = subcommand_of symarch_command words
 
--- ---- what each command asks for
+-- ---- the lines of words
 
--- the path is one of these, as text
+-- the path is one of these, compared as text
 abbrev pub is_path_among : Text → List Text → Bool
 is_path_among path paths = list_any (λ p. bytes_eq p path) paths
 
--- OUT is one of the inputs of a line, as text
+-- OUT is one of the inputs of a line, compared as text
 abbrev pub overwrites_input : Line → Bool
 overwrites_input line = option_map_or (λ out. is_path_among out (inputs_of line)) (out_of line) false
 
--- the line, if OUT is none of its inputs
+-- the line, if OUT is not one of its inputs
 abbrev pub kept : Line → Option Line
 kept line = if overwrites_input line then None else Some line
 
--- the words at a name, of which there may be none
+-- the words at a name, perhaps none
 abbrev pub any_of : Text → List Row → List Text
 any_of id rows = unwrap_or (all_of id rows) []
 
--- these words, if there are some
+-- these words, if there are any
 abbrev pub if_some : List Text → Option (Amount Text)
 if_some [] = None
 if_some (word ∷ words) = Some (several (word ∷ words))
 
--- a flag stands there: `clap` makes of it the value `true`, and where it does not stand there `false`
+-- the flag is present: `clap` gives it the value `true`, and otherwise `false`
 abbrev pub is_set : Text → List Row → Bool
 is_set id rows = option_map_or (λ value. bytes_eq value (codes "true")) (first_of id rows) false
 
--- the words of an argument, if as many stand at its name as it asks for
+-- the words of an argument, if its name has the number of words that the argument requires
 abbrev pub words_by : Count → Text → List Row → Option (Amount Text)
 words_by Once id rows = option_map (λ word. one word) (first_of id rows)
 words_by Several id rows = if_some (any_of id rows)
@@ -101,7 +101,7 @@ words_by (Perhaps option) id rows = Some (perhaps (first_of id rows))
 words_by (Often option) id rows = Some (several (any_of id rows))
 words_by (Flag option) id rows = Some (flag (is_set id rows))
 
--- what each word spells, where each has the form
+-- the value of each word, if each has the form
 abbrev pub all_spelled : {X : Type 0} → (Text → Option X) → List Text → Option (List X)
 all_spelled form [] = Some []
 all_spelled form (word ∷ words) =
@@ -121,11 +121,11 @@ values_spelled forms.Arch words = option_map (λ xs. archs xs) (amount_spelled a
 values_spelled forms.Digest words = option_map (λ xs. digests xs) (amount_spelled digest_of words)
 values_spelled forms.Number words = option_map (λ xs. numbers xs) (amount_spelled address_of words)
 
--- the values of an argument, where they are there and each word has its form
+-- the values of an argument, if they are present and each word has its form
 abbrev pub values_at : Argument → List Row → Option Values
 values_at a rows = option_and_then (values_spelled (form_of a.role)) (words_by a.count a.name rows)
 
--- of each of these
+-- the values of each of these arguments
 abbrev pub all_values : List Argument → List Row → Option (List Values)
 all_values [] rows = Some []
 all_values (a ∷ rest) rows = option_and_then (λ v. option_map (λ vs. v ∷ vs) (all_values rest rows)) (values_at a rows)
@@ -133,29 +133,29 @@ all_values (a ∷ rest) rows = option_and_then (λ v. option_map (λ vs. v ∷ v
 abbrev pub line_at : Signature → List Row → Option Line
 line_at s rows = option_map (line_with s) (all_values s.arguments rows)
 
--- by the command's name and what stands at its names
+-- the line for a command's name and the values at its names
 abbrev pub line_in : Text × List Row → Option Line
 line_in p = option_and_then (λ s. line_at s p.1) (signature_named p.0)
 
--- what the words ask for, where each value is there and has its form
+-- the line for these words, if each value is present and has its form
 abbrev pub asked_of : List Text → Option Line
 asked_of words = option_and_then line_in (named_command words)
 
--- the same, where OUT is no input
+-- the same, if OUT is not an input
 abbrev pub line_of : List Text → Option Line
 line_of words = option_and_then kept (asked_of words)
 
 -- ---- lines that are in order
 
--- the argument has its values, unless no word stands at its name
+-- the argument has its values, or its name has no word
 abbrev pub has_form : Argument → List Row → Bool
 has_form a rows = is_some (values_at a rows) || not (is_some (first_of a.name rows))
 
--- each argument of the command of this name does
+-- each argument of the command with this name has that
 abbrev pub have_forms : Text × List Row → Bool
 have_forms p = list_all (λ a. has_form a p.1) (arguments_named p.0)
 
--- each value of the command that the words name has its form, and OUT is no input
+-- each value of the command that the words name has its form, and OUT is not an input
 abbrev pub is_in_order : List Text → Bool
 is_in_order words =
     option_map_or have_forms (named_command words) true

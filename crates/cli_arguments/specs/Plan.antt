@@ -1,4 +1,4 @@
--- What a line asks for: its plan.
+-- The plan of a line.
 use Rattle.std.specs.Prelude.{◌≡◌, ◌<◌, ⊤, ℕ, List, ◌∷◌, codes, length}
 use Rattle.std.specs.{Prelude.if◌then◌else◌, Prelude.Option, Prelude.Some, Prelude.None, Str.bytes_eq}
 use Rattle.clap.specs.Words.{Text}
@@ -10,7 +10,7 @@ use Rattle.cli_arguments.specs.Table as table
 use Rattle.cli_arguments.specs.declared.plan.Plan.{Plan}
 use Rattle.cli_arguments.specs.declared.plan.Plan.TheVariants as plan
 
--- the values of the argument of this name
+-- the values of the argument with this name
 abbrev pub named_by : Text → List Argument → List Values → Option Values
 named_by name (a ∷ rest) (v ∷ vs) = if bytes_eq name a.name then Some v else named_by name rest vs
 named_by name _ _ = None
@@ -58,11 +58,11 @@ HasValues (plan.Frames lines slices) line =
     Has line (codes "LINES") (texts (flag lines)) × Has line (codes "SLICES") (texts (flag slices))
 HasValues _ line = ⊤
 
--- The plan is the one that a line asks for.
+-- The plan is that of the line.
 abbrev pub IsPlanOf : Plan → Line → Type 0
 IsPlanOf asked line = (line.name ≡ (command_of asked).name) × HasValues asked line
 
--- A plan has the inputs that it cannot do without.
+-- The inputs include those that the plan requires.
 abbrev pub HasInputs : {X : Type 0} → Plan → Inputs X → Type 0
 HasInputs plan.New inputs = ⊤
 HasInputs plan.Apply inputs = (0 < length inputs.archives) × (0 < length inputs.ops)

@@ -1,4 +1,4 @@
--- For each command a command line, and the command that it asks for.
+-- For each command a command line, and its meaning.
 use Rattle.std.specs.Prelude.{◌≡◌, ⊤, ℕ, true, false, List, [], ◌∷◌, Some, None, codes}
 use Rattle.clap.specs.Words.{Text}
 use Rattle.text_values.specs.Words.{arch_key}
@@ -6,7 +6,7 @@ use Rattle.cli_arguments.specs.Arguments.{archs, digests, flag, numbers, one, pe
 use Rattle.cli_arguments.specs.Lines.{Line, error_kinds, is_in_order, line_of, line_with}
 use Rattle.cli_arguments.specs.Table as table
 
--- words after the program's name, and a line
+-- words after the program's name, and their line
 pub record Sample : Type 0 where
   pub words : List Text
   pub line : Line
@@ -14,7 +14,7 @@ pub record Sample : Type 0 where
 abbrev pub sample : List Text → Line → Sample
 sample words line = record { words = codes "symarch" ∷ words; line = line }
 
--- The words have no kind of error and are in order, and they ask for the line.
+-- The words have no kind of error and are in order, and their line is this one.
 pub record Asks (s : Sample) : Type 0 where
   pub accepted : error_kinds s.words ≡ []
   pub in_order : is_in_order s.words ≡ true

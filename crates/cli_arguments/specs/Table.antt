@@ -1,4 +1,4 @@
--- The commands: of each its name, and its arguments in the order of the words.
+-- The commands, each with its name and its arguments in the order of the words.
 use Rattle.std.specs.Prelude.{Bool, false, List, [], ◌∷◌, codes, Option, find}
 use Rattle.std.specs.{Option.option_map_or, Str.bytes_eq}
 use Rattle.clap.specs.Words.{Text}
@@ -21,26 +21,26 @@ input_path = argument (codes "IN") Once (roles.Reads kinds.Archive)
 abbrev pub archive_path : Argument
 archive_path = argument (codes "ARCHIVE") Once (roles.Reads kinds.Archive)
 
--- further archives, asked together with it
+-- further archives, searched together with the first
 abbrev pub other_paths : Argument
 other_paths = argument (codes "OTHER") (Often (codes "with")) (roles.Reads kinds.Archive)
 
--- the index of an archive, and those of several
+-- the index of an archive, and those of several archives
 abbrev pub index_path : Argument
 index_path = argument (codes "INDEX") (Perhaps (codes "index")) (roles.Reads kinds.Index)
 
 abbrev pub index_paths : Argument
 index_paths = argument (codes "INDEX") (Often (codes "index")) (roles.Reads kinds.Index)
 
--- that lines of the sources are asked for too
+-- source lines are requested too
 abbrev pub lines_flag : Argument
 lines_flag = argument (codes "LINES") (Flag (codes "lines")) (roles.Says forms.Plain)
 
--- that the slices that answer are asked for too
+-- the slices that answer are requested too
 abbrev pub slices_flag : Argument
 slices_flag = argument (codes "SLICES") (Flag (codes "slices")) (roles.Says forms.Plain)
 
--- that files that are refused are passed over
+-- refused files are passed over
 abbrev pub keep_going_flag : Argument
 keep_going_flag = argument (codes "KEEP_GOING") (Flag (codes "keep-going")) (roles.Says forms.Plain)
 
@@ -118,13 +118,13 @@ commands =
     ∷ find_command ∷ list_command ∷ extract_command ∷ name_command ∷ symbolicate_command ∷ frames_command
     ∷ summary_command ∷ index_command ∷ delta_command ∷ rehearse_command ∷ []
 
--- the command of this name, if there is one
+-- the command with this name, if there is one
 abbrev pub signature_named : Text → Option Signature
 signature_named name = find (λ s. bytes_eq name s.name) commands
 
 abbrev pub arguments_named : Text → List Argument
 arguments_named name = option_map_or (λ s. s.arguments) (signature_named name) []
 
--- there is a command of this name, and each of its arguments has values of its own
+-- there is a command with this name, and each of its arguments has its values
 abbrev pub is_listed : Text → List Values → Bool
 is_listed name values = option_map_or (λ s. are_values_of s.arguments values) (signature_named name) false

@@ -1,4 +1,4 @@
--- The table of the program, as definitions see it.
+-- The table of the program, as a value of the definitions.
 use Rattle.std.specs.Prelude.{map}
 use Rattle.cli_arguments.specs.Arguments.{Argument, Count, Flag, Often, Once, Perhaps, Several}
 use Rattle.cli_arguments.specs.{Table.Signature, declared.commands.Signature.Signature as SignatureOfProgram}
@@ -15,6 +15,6 @@ count_in (counts.Flag option) = Flag option.now
 abbrev pub argument_in : ArgumentOfProgram → Argument
 argument_in a = record { name = a.name.now; count = count_in a.count; role = a.role }
 
--- the helps are in no definition
+-- no definition has the help texts
 abbrev pub signature_in : SignatureOfProgram → Signature
 signature_in s = record { name = s.name.now; arguments = map argument_in s.arguments.now }

@@ -1,4 +1,4 @@
--- The values of an argument, as definitions see them.
+-- The values of an argument, as values of the definitions.
 use Rattle.std.specs.{Global.Global, Prelude.None, Prelude.Some, Prelude.String, Prelude.map, Prelude.string_bytes}
 use Rattle.clap.specs.Words.{Text}
 use Rattle.cli_arguments.specs.Arguments.{Amount, Values, archs, digests, flag, numbers, one, perhaps, several, texts}

@@ -42,7 +42,7 @@ fn with_arguments<'a>(
     Ok(command)
 }
 
-/// With what stands after its help, if there is something.
+/// Adds the text after the help, if there is one.
 fn with_more<'a>(command: Command<'a>, more: Option<&'static str>) -> Command<'a>
     ensures app { app_of result ≡ app_of command.entry }
     ensures local { (out-Command result).has_globals ≡ (out-Command command.entry).has_globals }
@@ -79,7 +79,7 @@ fn with_table<'a>(
     Ok(command)
 }
 
-/// The program's command with its subcommands, one of which has to be named, and its version.
+/// The program's command with its subcommands, one of which is required, and its version.
 #[tactic(auto, unfolding(crate::specs::Commands::symarch_command))]
 pub fn symarch_command<'a>(alloc: Global) -> Result<Command<'a>, AllocError>
     ensures app { IfOk result (λ c. app_of c ≡ symarch_command) }

@@ -1,5 +1,5 @@
-//! The commands: of each its name, its help, and its arguments in the order of the words. What `clap` is told of a
-//! command, which of its words are paths, and the form that a word is refused with are all read from this table.
+//! The commands, each with its name, its help, and its arguments in the order of the words. The definitions for `clap`,
+//! which words are paths, and the form in the refusal of a word are all read from this table.
 
 ghost use Rattle.std.specs.Prelude.{◌≡◌, map, option_map};
 ghost use Rattle.cli_arguments.specs.Arguments.{form_of, reads, reads_kind, writes};
@@ -7,13 +7,13 @@ ghost use Rattle.cli_arguments.specs.TableView.{signature_in};
 ghost use Rattle.cli_arguments.specs.LineFaults.{form_words};
 ghost use Rattle.cli_arguments.specs.Table.{commands, signature_named};
 
-/// The number of the program, of which the first part is the version of the archives that it writes.
+/// The version of the program. Its first part is the version of the archives that it writes.
 pub const VERSION: &str = "2.3.1";
 
-/// What a word spells.
+/// The form of a word.
 #[derive(Clone, Copy)]
 pub enum Form {
-    /// Itself.
+    /// Any text, which is its own value.
     Plain,
     Uuid,
     Arch,
@@ -21,7 +21,7 @@ pub enum Form {
     Number,
 }
 
-/// What is read at a path, which names an input that is refused.
+/// The kind of an input, which names it in a refusal.
 #[derive(Clone, Copy, PartialEq, Eq)]
 pub enum Kind {
     Archive,
@@ -33,7 +33,7 @@ pub enum Kind {
     Frames,
 }
 
-/// What an argument is to its command.
+/// The role of an argument in its command.
 #[derive(Clone, Copy)]
 pub enum Role {
     /// The path of an input.
@@ -44,18 +44,18 @@ pub enum Role {
     Says(Form),
 }
 
-/// How often an argument stands in a line, and where.
+/// The number of words of an argument in a line, and their position.
 #[derive(Clone, Copy)]
 pub enum Count {
-    /// One word, which has to be there.
+    /// One word, which is required.
     Once,
-    /// The last words, of which one has to be there.
+    /// The last words, at least one.
     Several,
-    /// The word after the option of this name, that may be left out.
+    /// The word after the option with this name, which may be omitted.
     Perhaps(&'static str),
-    /// A word after each option of this name, of which any number may stand there.
+    /// The word after each option with this name, any number of times.
     Often(&'static str),
-    /// No word: whether the option of this name stands there, at most once.
+    /// No word: whether the option with this name is present, at most once.
     Flag(&'static str),
 }
 
@@ -68,7 +68,7 @@ pub struct Argument {
     pub role: Role,
 }
 
-/// A command, with its arguments in the order of the words, and what its help says after them.
+/// A command, with its arguments in the order of the words, and the text after them in its help.
 #[derive(Clone, Copy)]
 pub struct Signature {
     pub name: &'static str,
@@ -257,7 +257,7 @@ const ADDRESSES: Argument = Argument {
     role: Role::Says(Form::Number),
 };
 
-/// What `symbolicate` and `frames` print for an address, and what their exit status 1 says.
+/// The help on the lines that `symbolicate` and `frames` print for an address, and on their exit status 1.
 const ANSWERS: &str = "Each address gets a line: the address, and its nearest symbol or\n\
     -   no symbol is nearest: the address is in no section, or below its section's first symbol\n\
     ?   the archive has no slice of this UUID and ARCH\n\
@@ -271,7 +271,7 @@ const ANSWERS: &str = "Each address gets a line: the address, and its nearest sy
     The exit status is 1 if an answer is not exactly one symbol.\n\
     Numbers are hexadecimal, also without 0x.";
 
-/// What `extract` does without a slice, and what its exit status 1 says.
+/// The help on the slice that `extract` writes without a digest, and on its exit status 1.
 const UNDECIDED: &str =
     "The dSYM of this UUID and ARCH is written, or the image if the archive has no dSYM.\n\
     The exit status is 1 if there is no such slice, or if several answer, which are then\n\
@@ -394,7 +394,7 @@ pub fn table() -> &'static [Signature]
     COMMANDS
 }
 
-/// The command of this name, if there is one.
+/// The command with this name, if there is one.
 pub fn signature_named(name: &str) -> Option<Signature>
     ensures { option_map signature_in result ≡ signature_named name.now }
 {
@@ -406,14 +406,14 @@ pub fn signature_named(name: &str) -> Option<Signature>
     None
 }
 
-/// Whether it is the path of an input.
+/// Whether an argument with this role is the path of an input.
 pub fn is_input(role: Role) -> bool
     ensures { result ≡ reads role }
 {
     matches!(role, Role::Reads(_))
 }
 
-/// Whether it is the path of an input of this kind.
+/// Whether an argument with this role is the path of an input of this kind.
 pub fn is_input_of(role: Role, kind: Kind) -> bool
     ensures { result ≡ reads_kind kind role }
 {
@@ -423,7 +423,7 @@ pub fn is_input_of(role: Role, kind: Kind) -> bool
     }
 }
 
-/// Whether it is the path of OUT.
+/// Whether an argument with this role is the path of OUT.
 pub fn is_out(role: Role) -> bool
     ensures { result ≡ writes role }
 {
@@ -440,7 +440,7 @@ pub fn form_of(role: Role) -> Form
     }
 }
 
-/// A form, in words.
+/// The text of a form.
 pub fn form_text(form: Form) -> &'static str
     ensures { result.now ≡ form_words form }
 {

@@ -1,4 +1,4 @@
-//! Words and paths as they are shown: a control character, which a terminal obeys, is escaped.
+//! Words and paths as they are printed: a control character, which controls a terminal, is escaped.
 
 ghost use Rattle.std.specs.Prelude.{◌≡◌, ◌++◌, IfOk, OnOk, codes, string_bytes};
 ghost use Rattle.std.specs.List.{list_any};
@@ -8,7 +8,7 @@ use std::alloc::{AllocError, Global};
 use std::convert::AsStr;
 use std::fmt::Write;
 
-/// Adds a character as it is shown.
+/// Adds a character as it is printed.
 #[tactic(auto, using(text_values::proofs::Digits::padded_hex2))]
 fn push_shown(shown: &mut String, character: char) -> Result<(), AllocError>
     ensures { OnOk result (string_bytes shown.new ≡ string_bytes shown.old ++ shown_character character) }
@@ -21,7 +21,7 @@ fn push_shown(shown: &mut String, character: char) -> Result<(), AllocError>
     }
 }
 
-/// A text as it is shown: `\x` and two hex digits for each control character.
+/// A text as it is printed: `\x` and two hex digits for each control character.
 pub fn shown(alloc: Global, text: &str) -> Result<String, AllocError>
     ensures { IfOk result (λ s. string_bytes s ≡ shown text.now) }
 {
@@ -32,7 +32,7 @@ pub fn shown(alloc: Global, text: &str) -> Result<String, AllocError>
     Ok(shown)
 }
 
-/// A text without the line feed at its end.
+/// A text without a line feed at its end.
 pub fn without_line_feed(text: &str) -> &str
     ensures { result.now ≡ without_line_feed text.now }
 {
@@ -59,7 +59,7 @@ fn is_controlled(text: &str) -> bool
     text.chars().any(char::is_control)
 }
 
-/// Whether a word has one.
+/// Whether one of these words has a control character.
 pub fn has_control<S: AsStr>(words: &[S]) -> bool
     ensures { result ≡ list_any (λ word. has_control (S.text word)) words.now }
 {

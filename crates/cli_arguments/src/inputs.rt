@@ -1,4 +1,4 @@
-//! The inputs of a line, by what they are.
+//! The inputs of a line, by their kinds.
 
 ghost use Rattle.std.specs.Prelude.{◌≡◌, ◌++◌, OnOk, map, string_bytes};
 ghost use Rattle.cli_arguments.specs.Inputs.{kinds_at};
@@ -7,7 +7,7 @@ use crate::commands::{Kind, Role};
 use crate::lines::Line;
 use std::alloc::{AllocError, AllocFailed, Global};
 
-/// The inputs of a line by what they are, those of each kind in the order of the words.
+/// The inputs of a line by their kinds; those of each kind are in the order of the words.
 #[derive(Drop)]
 pub struct Inputs<S> {
     pub archives: Vec<S>,
@@ -23,7 +23,7 @@ impl<S> Inputs<S> {
     ghost use Rattle.std.specs.Prelude.{◌≡◌};
     ghost use Rattle.cli_arguments.specs.Inputs.{inputs_view, of_kind};
 
-    /// Those of a kind.
+    /// The inputs of a kind.
     pub fn of_kind(&self, kind: Kind) -> &[S]
         ensures { result.now ≡ of_kind kind (inputs_view self.now) }
     {
@@ -110,7 +110,7 @@ impl Line {
         Ok(kinds)
     }
 
-    /// These inputs, which stand in the order of the words, by what they are.
+    /// Groups these inputs, one for each path of the line in the order of the words, by kind.
     pub fn by_kind<S: Drop>(&self, alloc: Global, inputs: Vec<S>) -> Result<Inputs<S>, AllocError>
         requires { length inputs.items ≡ length (inputs_of (line_view self.now)) }
         ensures picked { IfOk result (λ all. (kind : Kind) → of_kind kind (inputs_view all)

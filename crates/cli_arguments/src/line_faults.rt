@@ -1,4 +1,4 @@
-//! Why a command line asks for nothing.
+//! Why a command line has no plan.
 
 ghost use Rattle.std.specs.Prelude.{◌≡◌, ◌≢◌, MatchResult};
 ghost use Rattle.clap.specs.Words.{kind_of};
@@ -9,13 +9,13 @@ use clap::Error;
 use clap::error::ErrorKind;
 use std::alloc::{AllocError, AllocFailed, Global};
 
-/// Why a command line asks for nothing.
+/// Why a command line has no plan.
 #[derive(Debug, Drop)]
 pub enum LineFault {
-    /// The line is refused: status 3. The text begins with `error: ` and ends with a line feed, as
-    /// each of `clap` does.
+    /// The line is refused: status 3. The text begins with `error: ` and ends with a line feed, as each error text of
+    /// `clap` does.
     Refused(String),
-    /// Memory was wanting: status 4.
+    /// Memory ran out: status 4.
     OutOfMemory,
     /// The line asks for help or for the version, with its text: status 0.
     Help(String),
@@ -41,7 +41,7 @@ impl<T: Drop> From<AllocFailed<T>> for LineFault {
     }
 }
 
-/// The fault of a line by the kind of an error of `clap`, which is no want of memory, and by its text.
+/// The fault of a line for an error of `clap` with this kind, which is not lack of memory, and this text.
 fn asked_or_refused(kind: ErrorKind, text: String) -> LineFault
     ensures help { kind ≡ ErrorKind.DisplayHelp → result ≡ LineFault.Help text }
     ensures version { kind ≡ ErrorKind.DisplayVersion → result ≡ LineFault.Help text }
@@ -55,8 +55,8 @@ fn asked_or_refused(kind: ErrorKind, text: String) -> LineFault
     }
 }
 
-/// The text of an error; of a refusal of words with control characters in one line, so that no word makes one of its
-/// own.
+/// The text of an error; if a refused word has control characters, the text is one line, so that no word adds a line of
+/// its own.
 fn error_text(alloc: Global, error: &Error, controlled: bool) -> Option<String> {
     let text = error.to_string(alloc).ok()?;
     match error.kind() {
@@ -66,7 +66,7 @@ fn error_text(alloc: Global, error: &Error, controlled: bool) -> Option<String> 
     }
 }
 
-/// The fault of a line at which `clap` gives this error, and whether a word of the line has a control character.
+/// The fault of a line for this error of `clap`; `controlled` is whether a word of the line has a control character.
 pub fn parse_fault(alloc: Global, error: &Error, controlled: bool) -> LineFault
     ensures memory { kind_of error.now ≡ ErrorKind.OutOfMemory → result ≡ LineFault.OutOfMemory }
     ensures help { kind_of error.now ≡ ErrorKind.DisplayHelp → IsHelpUnlessMemory result }
@@ -84,7 +84,7 @@ pub fn parse_fault(alloc: Global, error: &Error, controlled: bool) -> LineFault
     }
 }
 
-/// A refusal with a text of the program's own, if there was memory for it.
+/// A refusal with a text of the program's own, or lack of memory if there is no text.
 pub fn refused(text: Result<String, AllocError>) -> LineFault
     ensures text { MatchResult text (λ t. result ≡ LineFault.Refused t)
         (λ _. result ≡ LineFault.OutOfMemory) }

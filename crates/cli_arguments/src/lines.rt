@@ -1,4 +1,4 @@
-//! What a command line asks for.
+//! A command line as its command and values.
 
 ghost use Rattle.std.specs.Prelude.{◌≡◌, ◌++◌, OnOk, map, string_bytes, true};
 ghost use Rattle.cli_arguments.specs.ValuesView.{values_view};
@@ -8,7 +8,7 @@ use crate::commands::{Argument, is_input, is_out, signature_named};
 use crate::values::Values;
 use std::alloc::{AllocError, Global};
 
-/// What a command line asks for: a command of the table, and the values of its arguments in the table's order.
+/// A command line: a command of the table, and the values of its arguments in the table's order.
 #[derive(Drop)]
 pub struct Line {
     pub name: String,
@@ -41,7 +41,7 @@ impl Line {
         let mut paths = Vec::new(alloc);
         'arguments: for (argument, values) in arguments.iter().zip(&self.values) {
             if is_input(argument.role) {
-                push_all(&mut paths, values.texts())?;
+                push_paths(&mut paths, values.texts())?;
             }
         }
         Ok(paths)
@@ -64,7 +64,7 @@ impl Line {
 }
 
 /// Adds these paths.
-fn push_all<'p>(paths: &mut Vec<&'p str>, texts: &'p [String]) -> Result<(), AllocError>
+fn push_paths<'p>(paths: &mut Vec<&'p str>, texts: &'p [String]) -> Result<(), AllocError>
     ensures { OnOk result (map (λ p. p.now) paths.new.items
         ≡ map (λ p. p.now) paths.old.items ++ map string_bytes texts.now) }
 {

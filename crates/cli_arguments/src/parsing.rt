@@ -1,4 +1,4 @@
-//! A command line, read by `clap`.
+//! Command lines, parsed by `clap`.
 
 ghost use Rattle.std.specs.Prelude.{◌≡◌, ◌⊎◌, IfErr, IfOk, IsErrAnd, OnOk, Some, [], ◌∷◌};
 ghost use Rattle.std.specs.Prelude.{false, map, option_map, true};
@@ -22,7 +22,7 @@ use clap::error::ErrorKind;
 use std::alloc::Global;
 use std::convert::AsStr;
 
-/// The line of the command of this name.
+/// The line of the command with this name.
 fn line_in(alloc: Global, name: &str, matches: &ArgMatches) -> Result<Line, LineFault>
     ensures reads { ReadsLine (line_in (name.now, rows_of (found_of matches.now))) result }
     ensures told { IfErr result (IsRefusedBy (refusal_in (name.now, rows_of (found_of matches.now)))) }
@@ -35,7 +35,7 @@ fn line_in(alloc: Global, name: &str, matches: &ArgMatches) -> Result<Line, Line
     Ok(Line { name, values })
 }
 
-/// What `clap` makes of the words.
+/// The matches of `clap` for these words.
 fn matches_of<'a, S: AsStr>(alloc: Global, words: &'a [S]) -> Result<ArgMatches<'a>, LineFault>
     ensures ok { IfOk result (λ m. subcommand_rows_of m ≡ named_command (map S.text words.now)) }
     ensures accepted { OnOk result (error_kinds (map S.text words.now) ≡ []) }
@@ -64,14 +64,14 @@ fn named_command<'m, 'a>(matches: &'m ArgMatches<'a>) -> Option<(&'a str, &'m Ar
     matches.subcommand()
 }
 
-/// Whether a path is one of these, as text.
+/// Whether a path is one of these, compared as text.
 fn is_among(path: &str, paths: &[&str]) -> bool
     ensures { result ≡ is_path_among path.now (map (λ p. p.now) paths.now) }
 {
     paths.contains(&path)
 }
 
-/// The refusal of a line in which OUT is an input.
+/// The refusal of a line whose OUT is an input.
 fn out_is_input(alloc: Global, out: &str) -> LineFault
     ensures told { IsRefusedBy (Some (out_is_input out.now)) result }
     ensures refusal { IsRefusalUnlessMemory result }
@@ -84,7 +84,7 @@ fn out_is_input(alloc: Global, out: &str) -> LineFault
     }
 }
 
-/// Refuses a line that would write over one of its inputs.
+/// Refuses a line that would overwrite one of its inputs.
 fn check_out(alloc: Global, line: &Line) -> Result<(), LineFault>
     ensures ok { OnOk result (overwrites_input (line_view line.now) ≡ false) }
     ensures err { IfErr result (λ e. (e ≡ LineFault.OutOfMemory) ⊎ (overwrites_input (line_view line.now) ≡ true)) }
@@ -100,18 +100,21 @@ fn check_out(alloc: Global, line: &Line) -> Result<(), LineFault>
     Ok(())
 }
 
-/// Reads a command line, of which the first word is the program's name. A line that `clap` refuses
-/// has `clap`'s own text. One in which a word has another form than its name asks for has a text with
-/// the name, the word and the form, and one in which OUT is an input a text with its path.
+/// Parses a command line, whose first word is the program's name.
+///
+/// # Errors
+///
+/// A line that `clap` refuses has `clap`'s text. If a word lacks the form of its argument, the text has the argument's
+/// name, the word and the form; if OUT is an input, the text has its path. `OutOfMemory` if memory runs out.
 pub fn parse_command_line<S: AsStr>(alloc: Global, words: &[S]) -> Result<Line, LineFault>
-    // A line asks for what the words ask for, by `clap`'s own definition of a command's matches.
+    // The line is that of the words, by `clap`'s own definition of a command's matches.
     ensures ok { IfOk result (λ line. Some (line_view line) ≡ line_of (map S.text words.now)) }
     ensures accepted { OnOk result (error_kinds (map S.text words.now) ≡ []) }
     ensures in_order { OnOk result (is_in_order (map S.text words.now) ≡ true) }
     ensures keeps_inputs { IfOk result (λ line. KeepsInputs (line_view line)) }
 
-    // A line that `clap` accepts, in which each value has its form and OUT's path is no input's, is refused for memory
-    // alone.
+    // A line that `clap` accepts, in which each value has its form and OUT's path is not an input's, is refused only
+    // for want of memory.
     ensures err { are_accepted (map S.text words.now) ≡ true
         → is_in_order (map S.text words.now) ≡ true
         → IfErr result (λ e. e ≡ LineFault.OutOfMemory) }
@@ -123,8 +126,8 @@ pub fn parse_command_line<S: AsStr>(alloc: Global, words: &[S]) -> Result<Line, 
         → ¬ IsAmong ErrorKind.DisplayVersion (error_kinds (map S.text words.now))
         → IfErr result IsRefusalUnlessMemory }
 
-    // Words that `clap` accepts are refused with the first of the command's arguments that has a word of another form,
-    // with that word, the first, and with the form; and only where each has its form, with OUT's path.
+    // Words that `clap` accepts are refused for the first argument of the command with a word that lacks its form, with
+    // the first such word and the form; and only if each has its form, for OUT, with its path.
     ensures told { error_kinds (map S.text words.now) ≡ []
         → IfErr result (IsRefusedBy (refusal_of (named_command (map S.text words.now)))) }
 {

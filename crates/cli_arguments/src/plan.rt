@@ -1,4 +1,4 @@
-//! What a line asks for: its plan, with the values of the line.
+//! The plan of a line, with the values of the line.
 
 ghost use Rattle.std.specs.Prelude.{◌≡◌, IsSomeAnd, map, true};
 ghost use Rattle.cli_arguments.specs.Arguments.{are_values_of};
@@ -16,46 +16,45 @@ use crate::values::Values::{Archs, Digests, Numbers, Texts, Uuids};
 use archive_core::{ArchKey, Digest, SliceKey};
 use uuid::Uuid;
 
-/// What a line asks for: its command, with the values that it is carried out with. The paths of its inputs stay in the
-/// line.
+/// The plan of a line: its command, with the values that it needs. The paths of its inputs stay in the line.
 #[derive(Clone, Copy, Debug)]
 pub enum Plan<'l> {
-    /// To write the empty archive.
+    /// Write the empty archive.
     New,
-    /// To take each file, in the order of the words. A file that is named twice is taken twice. If `keep_going`, one
-    /// that is refused is passed over.
+    /// Admit each file, in the order of the words. A file that is named twice is admitted twice. If `keep_going`, a
+    /// refused file is passed over.
     Admit {
         keep_going: bool,
     },
-    /// To take one retirement.
+    /// Add one retirement.
     Retire {
         key: SliceKey,
         digest: Digest,
     },
-    /// To join archives, in the order of the words.
+    /// Join archives, in the order of the words.
     Merge,
-    /// To take an archive over to the present version.
+    /// Rewrite an archive in the current version.
     Migrate,
-    /// To take the records of an operations file.
+    /// Add the records of an operations file.
     Apply,
-    /// To list what the archives have of a build.
+    /// List the rows of the archives under a UUID.
     Find {
         uuid: Uuid,
     },
-    /// To list all that the archive has.
+    /// List all rows of the archive.
     List,
-    /// To write the slice that answers under a key, or one that has the digest.
+    /// Write the slice that answers under a key, or the one with the digest.
     Extract {
         key: SliceKey,
         digest: Option<Digest>,
     },
-    /// To find where symbols of a name stand. The name is the word itself.
+    /// Find the addresses of symbols with a name. The name is the word itself.
     Name {
         name: &'l str,
     },
-    /// To answer each address, in the order of the words. With `load` the addresses are those of an image that was
-    /// loaded there. If `lines`, the source frames follow what each slice answers. If `slices`, the slices that answer
-    /// follow the answers.
+    /// Answer each address, in the order of the words. With `load` the addresses are those of an image that was loaded
+    /// there. If `lines`, the source frames follow the answer of each slice. If `slices`, the slices that answer follow
+    /// the answers.
     Symbolicate {
         key: SliceKey,
         load: Option<u64>,
@@ -63,18 +62,18 @@ pub enum Plan<'l> {
         slices: bool,
         addresses: &'l [u64],
     },
-    /// To answer each frame of a crash, in the order of the lines of FRAMES; `lines` and `slices` as of `Symbolicate`.
+    /// Answer each frame of a crash, in the order of the lines of FRAMES; `lines` and `slices` as in `Symbolicate`.
     Frames {
         lines: bool,
         slices: bool,
     },
-    /// To write the summary of an archive.
+    /// Write the summary of an archive.
     Summary,
-    /// To write the index of an archive.
+    /// Write the index of an archive.
     Index,
-    /// To write what an archive has that a summary does not name.
+    /// Write the records of an archive that a summary does not name.
     Delta,
-    /// To carry out the events of a script, and print what comes of them.
+    /// Carry out the events of a script, and print their results.
     Rehearse,
 }
 
@@ -83,11 +82,11 @@ impl<'l> Plan<'l> {
     ghost use Rattle.cli_arguments.specs.LineView.{line_view};
     ghost use Rattle.cli_arguments.specs.Plan.{IsPlanOf};
 
-    /// What a line asks for. Each line of the table asks for something.
+    /// The plan of a line. Each line of the table has one.
     pub fn of(line: &'l Line) -> Plan<'l>
         ensures { IsPlanOf result (line_view line.now) }
     {
-        match plan_in(line) {
+        match plan_by_name(line) {
             Some(plan) => plan,
             None => unreachable!(),
         }
@@ -95,7 +94,7 @@ impl<'l> Plan<'l> {
 }
 
 /// The plan of a line, by the name of its command.
-fn plan_in<'l>(line: &'l Line) -> Option<Plan<'l>>
+fn plan_by_name<'l>(line: &'l Line) -> Option<Plan<'l>>
     ensures { IsSomeAnd result (λ plan. IsPlanOf plan (line_view line.now)) }
 {
     let values = line.values.as_slice();

@@ -1,4 +1,4 @@
-//! The values that the words of an argument spell.
+//! The values of the words of an argument.
 
 ghost use Rattle.std.specs.Prelude.{◌≡◌, ◌⊎◌, IfErr, IfOk, None, Some, map, option_map};
 ghost use Rattle.std.specs.Prelude.{string_bytes};
@@ -21,7 +21,7 @@ use clap::ArgMatches;
 use std::alloc::{AllocError, Global};
 use text_values::Word;
 
-/// The words of an argument, by how often it stands in a line.
+/// The words of an argument, by their number in a line.
 #[derive(Clone, Copy)]
 enum Words<'m, 'a> {
     One(&'a str),
@@ -31,14 +31,14 @@ enum Words<'m, 'a> {
     Flag(bool),
 }
 
-/// The value of a name, if it stands there.
+/// The value of a name, if it is present.
 fn value<'a>(matches: &ArgMatches<'a>, id: &str) -> Option<&'a str>
     ensures { option_map (λ s. s.now) result ≡ first_of id.now (rows_of (found_of matches.now)) }
 {
     matches.get_str(id)
 }
 
-/// The values of a name, in the order of the words, if any stands there.
+/// The values of a name, in the order of the words, if any is present.
 fn values<'m, 'a>(matches: &'m ArgMatches<'a>, id: &str) -> Option<&'m [&'a str]>
     ensures { option_map (λ s. map (λ v. v.now) s.now) result
         ≡ all_of id.now (rows_of (found_of matches.now)) }
@@ -46,14 +46,14 @@ fn values<'m, 'a>(matches: &'m ArgMatches<'a>, id: &str) -> Option<&'m [&'a str]
     matches.get_strs(id)
 }
 
-/// Whether a flag stands there, of which `clap` makes the value `true`.
+/// Whether a flag is present, for which `clap` then has the value `true`.
 fn is_set(matches: &ArgMatches, id: &str) -> bool
     ensures { result ≡ is_set id.now (rows_of (found_of matches.now)) }
 {
     value(matches, id).is_some_and(|text| text == "true")
 }
 
-/// These words, if there are some.
+/// These words, if there are any.
 fn if_some<'m, 'a>(words: &'m [&'a str]) -> Option<Words<'m, 'a>>
     ensures { option_map argument_values result ≡ if_some (map (λ w. w.now) words.now) }
 {
@@ -63,7 +63,7 @@ fn if_some<'m, 'a>(words: &'m [&'a str]) -> Option<Words<'m, 'a>>
     }
 }
 
-/// The words of an argument, if as many stand at its name as it asks for.
+/// The words of an argument, if its name has the number of words that the argument requires.
 fn words_at<'m, 'a>(argument: Argument, matches: &'m ArgMatches<'a>) -> Option<Words<'m, 'a>>
     ensures { option_map argument_values result
         ≡ words_by (count_in argument.count) argument.name.now (rows_of (found_of matches.now)) }
@@ -77,7 +77,7 @@ fn words_at<'m, 'a>(argument: Argument, matches: &'m ArgMatches<'a>) -> Option<W
     }
 }
 
-/// The value that each of these words spells.
+/// The value of each of these words.
 fn each_spelled<T: Word + Drop>(
     alloc: Global,
     argument: Argument,
@@ -98,7 +98,7 @@ fn each_spelled<T: Word + Drop>(
     Ok(values)
 }
 
-/// The value that a word spells, which stands at this name.
+/// The value of a word of this argument.
 fn spelled<T: Word>(alloc: Global, argument: Argument, word: &str) -> Result<T, LineFault>
     ensures ok { IfOk result (λ x. T.form_of word.now ≡ Some x) }
     ensures err { IfErr result (λ e. (e ≡ LineFault.OutOfMemory) ⊎ (T.form_of word.now ≡ None)) }
@@ -111,7 +111,7 @@ fn spelled<T: Word>(alloc: Global, argument: Argument, word: &str) -> Result<T, 
     }
 }
 
-/// The refusal of a line in which a word has another form than its argument.
+/// The refusal of a line in which a word lacks the form of its argument.
 fn other_form(alloc: Global, argument: Argument, word: &str) -> LineFault
     ensures { IsRefusedAs (other_form (argument_in argument) word.now) result }
 {
@@ -124,7 +124,7 @@ fn other_form(alloc: Global, argument: Argument, word: &str) -> LineFault
 }
 
 /// The refusal of a line in which a value is missing.
-fn missing(alloc: Global, argument: Argument) -> LineFault
+fn missing_value(alloc: Global, argument: Argument) -> LineFault
     ensures { IsRefusedAs (without_value (argument_in argument)) result }
 {
     let name = argument.name;
@@ -142,7 +142,7 @@ pub fn copies(alloc: Global, texts: &[&str]) -> Result<Vec<String>, AllocError>
     Ok(copies)
 }
 
-/// A copy of words that stand for themselves.
+/// A copy of words that are their own values.
 fn copied(alloc: Global, words: Words) -> Result<Amount<String>, AllocError>
     ensures { IfOk result (λ copied. texts_view copied ≡ argument_values words.entry) }
 {
@@ -181,7 +181,7 @@ fn amount<T: Word + Drop>(
     })
 }
 
-/// What the words of an argument spell, by its form.
+/// The values of the words of an argument, by its form.
 fn values_spelled(alloc: Global, argument: Argument, words: Words) -> Result<Values, LineFault>
     ensures ok { IfOk result (λ vs. values_spelled (form_of argument.role) (argument_values words.entry)
         ≡ Some (values_view vs)) }
@@ -199,7 +199,7 @@ fn values_spelled(alloc: Global, argument: Argument, words: Words) -> Result<Val
     })
 }
 
-/// The values of an argument, which each line that `clap` accepts has where the argument has to be there.
+/// The values of an argument. Each line that `clap` accepts has them if the argument is required.
 #[tactic(auto, unfolding(crate::specs::LineFaults::refusal_at))]
 fn values_at(alloc: Global, argument: Argument, matches: &ArgMatches) -> Result<Values, LineFault>
     ensures ok { IfOk result (λ vs. values_at (argument_in argument) (rows_of (found_of matches.now))
@@ -211,7 +211,7 @@ fn values_at(alloc: Global, argument: Argument, matches: &ArgMatches) -> Result<
 {
     match words_at(argument, matches) {
         Some(words) => values_spelled(alloc, argument, words),
-        None => Err(missing(alloc, argument)),
+        None => Err(missing_value(alloc, argument)),
     }
 }
 

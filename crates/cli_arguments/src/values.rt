@@ -4,15 +4,15 @@ use archive_core::{ArchKey, Digest};
 use std::slice;
 use uuid::Uuid;
 
-/// What stands at an argument, by how often it stands in a line.
+/// The values of an argument, by their number in a line.
 #[derive(Debug, Drop)]
 pub enum Amount<T> {
     One(T),
-    /// Any number, in the order of the words: one or more of the last words, and none or more after options.
+    /// Any number, in the order of the words: at least one of the last words, or any number after options.
     Several(Vec<T>),
-    /// One that may be left out.
+    /// One that may be omitted.
     Perhaps(Option<T>),
-    /// None: whether the flag stands there.
+    /// No value: whether the flag is present.
     Flag(bool),
 }
 

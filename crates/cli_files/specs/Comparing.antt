@@ -1,4 +1,4 @@
--- The archive of a draft, and the one at its target, which are compared before the draft takes its place.
+-- The archive in a draft and the archive at its target, compared before the draft replaces the target.
 use Rattle.std.specs.Prelude.{◌≡◌, ◌⊎◌, ℕ, List, [], ◌++◌, Some, None, ⊤}
 use Rattle.byte_device.specs.Devices.{stream}
 use Rattle.byte_device.specs.declared.Source.{Ghosts as Sources}
@@ -12,7 +12,7 @@ use Rattle.cli_files.specs.declared.replaceable.Obstacle.TheVariants as obstacle
 use Rattle.cli_files.specs.declared.replaceable.OutFault.TheVariants as fault
 use Rattle.cli_files.specs.declared.sides.ArchiveSide.{ArchiveSide}
 
--- The archives in the files that were opened at these two paths, each between two of its states.
+-- The archives in the files that were opened at these two paths, each with its state before and after the comparison.
 pub record Sides (R : Type 0) (draft target : List ℕ) : Type 0 where
   pub new_before : ArchiveSide R
   pub new_after : ArchiveSide R
@@ -21,14 +21,14 @@ pub record Sides (R : Type 0) (draft target : List ℕ) : Type 0 where
   pub new_at : new_before.path.now ≡ draft
   pub old_at : old_before.path.now ≡ target
 
--- Both were read to their ends: the draft neither has nor covers so many records of the archive at the target.
+-- Both archives were read to their ends. The draft neither has nor covers `lost` records of the archive at the target.
 pub record AreCompared {R : Type 0} (new old : Sources (ArchiveSide R)) (draft target : List ℕ) (lost : ℕ)
     : Type 0 where
   pub sides : Sides R draft target
   pub loses : Loses (stream new.left new.failures sides.new_before sides.new_after)
       (stream old.left old.failures sides.old_before sides.old_after) lost
 
--- One was not read to its end, and OUT is refused for that.
+-- One archive was not read to its end, and OUT is refused for that reason.
 pub record AreUncompared {R : Type 0} (new old : Sources (ArchiveSide R)) (draft target : List ℕ) (refusal : OutFault)
     : Type 0 where
   pub sides : Sides R draft target
@@ -37,16 +37,17 @@ pub record AreUncompared {R : Type 0} (new old : Sources (ArchiveSide R)) (draft
       (stream old.left old.failures sides.old_before sides.old_after) stop
   pub unread : IsUnread stop sides.new_after.reading.reason sides.old_after.reading.reason refusal
 
--- OUT is refused before the two are read: the last of these calls failed, memory was wanting, or what is at the target
--- is of another kind.
+-- OUT is refused before the two archives are read: the last of these calls failed, memory ran out, or the file at the
+-- target is of another kind.
 abbrev pub IsBeforeComparison : List FileCall → OutFault → Type 0
 IsBeforeComparison calls fault.OutOfMemory = ⊤
 IsBeforeComparison calls (fault.NotReplaced (obstacle.OtherKind bytes)) = ⊤
 IsBeforeComparison calls (fault.NotReplaced (obstacle.Refused (Some error))) = Fails error calls
 IsBeforeComparison calls refusal = ⊥
 
--- If only the comparison of the two gives this fault, it did: so many records would be lost, or one of the two was not
--- read to its end. An error is that of the last call, or the last one of a file that was not read to its end.
+-- If the fault can only arise from the comparison, then the comparison produced it: records would be lost, or an
+-- archive was not read to its end. The error is that of the last call, or the last error of a file that was not read to
+-- its end.
 abbrev pub IsOfComparison : {R : Type 0} → Sources (ArchiveSide R) → Sources (ArchiveSide R) → List ℕ → List ℕ
     → List FileCall → OutFault → Type 0
 IsOfComparison new old draft target calls (fault.NotReplaced (obstacle.Loses lost)) =
@@ -59,7 +60,7 @@ IsOfComparison new old draft target calls (fault.NotReplaced (obstacle.Refused (
     Fails error calls ⊎ AreUncompared new old draft target (fault.NotReplaced (obstacle.Refused (Some error)))
 IsOfComparison new old draft target calls refusal = ⊤
 
--- Nothing is at the target, or an empty file, as the last calls say; or the archive there was compared with the draft,
+-- The last calls show that no file or an empty file is at the target; or the archive there was compared with the draft,
 -- which has or covers each of its records.
 abbrev pub NoneLost : {R : Type 0} → Sources (ArchiveSide R) → Sources (ArchiveSide R) → List ℕ → List ℕ
     → List FileCall → List FileCall → Type 0

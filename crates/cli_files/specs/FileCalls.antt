@@ -1,4 +1,4 @@
--- The calls of the system for an output.
+-- The calls to the system for an output.
 use Rattle.std.specs.Prelude.{ℕ, Bool, true, false, ◌&&◌, ◌==◌, if◌then◌else◌, List, [], ◌∷◌, ◌++◌, map, string_bytes}
 use Rattle.std.specs.Prelude.{◌≡◌, Option, Some, None, Result, Ok, Err, drop, length, min, replicate}
 use Rattle.std.specs.Io.KnownBytes.{Consumes}
@@ -9,12 +9,12 @@ use Rattle.std.specs.declared.io.ErrorKind.TheVariants.{AlreadyExists, NotFound,
 use Rattle.std.specs.declared.string.String.{String}
 use Rattle.cli_files.specs.declared.found.Found.{Found}
 
--- A call, and what the system said. It says what a path leads to: a file, or nothing; whether the path itself is a
--- link; which path it leads to; which bytes the file there begins with, none if it is empty; and which come next. An
--- archive is compared with another one, of which it neither has nor covers so many records. A file is created that was
--- not there, with a mode, or what is there is opened and emptied; it takes bytes, which are synced to the disk; it is
--- renamed, and the folder synced; or it is removed. Or the system refuses a call of a path, for a lack of memory or
--- otherwise, or since a file is there where one was to be created.
+-- A call with the reply of the system. A path was resolved to a file or to nothing; a path was found to be a link; a
+-- link was resolved to a path; the first bytes of a file were read (none if it is empty), or its next bytes. Two
+-- archives were compared: the first neither has nor covers a number of records of the second. A new file was created
+-- with a mode, or an existing one was opened and truncated; bytes were written to it and synced to the disk; it was
+-- renamed and the folder synced; or it was removed. Or a call on a path failed: memory ran out, the file to be created
+-- exists, or another error occurred.
 pub data FileCall : Type 0 where
   Finds : (path : List ℕ) → (found : Found) → FileCall
   FindsNothing : (path : List ℕ) → FileCall
@@ -35,7 +35,7 @@ pub data FileCall : Type 0 where
   WantsMemory : (path : List ℕ) → FileCall
   Refuses : (path : List ℕ) → FileCall
 
--- the call with this number, as the log notes it, with the numbers of what the system said
+-- the call with this number, as the log notes it, with the numbers of the reply
 abbrev pub call_of : List ℕ → List ℕ → List ℕ → FileCall
 call_of (call ∷ mode ∷ []) path other = if call == 0 then Creates path mode else Compares path other mode
 call_of (call ∷ size ∷ device ∷ number ∷ mode ∷ user ∷ group ∷ []) path other = Finds path (record {
@@ -65,76 +65,76 @@ call_of (call ∷ []) path other =
     else Refuses path
 call_of _ path other = Refuses path
 
--- ---- answers
+-- ---- entries
 
--- a call of a path failed so
+-- the entry for a call on a path that failed with this kind of error
 abbrev pub failed : List ℕ → ErrorKind → FileCall
 failed path NotFound = FindsNothing path
 failed path OutOfMemory = WantsMemory path
 failed path kind = Refuses path
 
--- a call was done, or failed
+-- the entries for a call that was done, or failed
 abbrev pub answered : {T : Type 0} → FileCall → List ℕ → Result T Error → List FileCall
 answered call path (Ok done) = call ∷ []
 answered call path (Err error) = failed path (error_kind error) ∷ []
 
--- only that it failed is noted
+-- the entries for a call of which only a failure is noted
 abbrev pub refused : {T : Type 0} → List ℕ → Result T Error → List FileCall
 refused path (Ok done) = []
 refused path (Err error) = failed path (error_kind error) ∷ []
 
--- what a path leads to
+-- the entries for the file that a path leads to
 abbrev pub found : List ℕ → Result Found Error → List FileCall
 found path (Ok file) = Finds path file ∷ []
 found path (Err error) = failed path (error_kind error) ∷ []
 
--- whether it is a link itself
+-- the entries for whether a path is itself a link
 abbrev pub linked : List ℕ → Bool → List FileCall
 linked path true = FindsLink path ∷ []
 linked path false = FindsNoLink path ∷ []
 
--- which path it leads to
+-- the entries for the path that a path leads to
 abbrev pub led : {A : Type 0} → List ℕ → Result (String A) Error → List FileCall
 led path (Ok target) = Leads path (string_bytes target) ∷ []
 led path (Err error) = failed path (error_kind error) ∷ []
 
--- what a file begins with, of which this was read: nothing, if it is empty
+-- the first bytes of a file, from the result of reading them: no bytes if it is empty
 abbrev pub first_bytes : Option (List ℕ) → List ℕ
 first_bytes None = []
 first_bytes (Some bytes) = bytes
 
--- This was read of a file of this size, which had those bytes left before and has these after: its next eight, or as
--- many as it has, with zeros after them; nothing, if it is empty.
+-- The result of reading a file of this size, with the bytes left before and after: its next eight bytes, padded with
+-- zeros if fewer are left; `None` if the file is empty.
 abbrev pub HasRead : Option (List ℕ) → Option (List ℕ) → ℕ → Option (List ℕ) → Type 0
 HasRead before after size None = (size ≡ 0) × (after ≡ before)
 HasRead before after size (Some bytes) =
     (read : List ℕ) × (length read ≡ min 8 size) × Consumes before after read
     × (bytes ≡ read ++ drop (length read) (replicate 8 0))
 
--- what the file there begins with
+-- the entries for the first bytes of the file at a path
 abbrev pub begun : List ℕ → Result (Option (List ℕ)) Error → List FileCall
 begun path (Ok beginning) = Begins path (first_bytes beginning) ∷ []
 begun path (Err error) = failed path (error_kind error) ∷ []
 
--- a file was not created at a path, which may be taken
+-- the entry for a file that was not created at a path, perhaps because one exists there
 abbrev pub uncreated : List ℕ → ErrorKind → FileCall
 uncreated path AlreadyExists = FindsTaken path
 uncreated path kind = failed path kind
 
--- a file was to be created with this mode
+-- the entries for the creation of a file with this mode
 abbrev pub created : {T : Type 0} → List ℕ → ℕ → Result T Error → List FileCall
 created path mode (Ok done) = Creates path mode ∷ []
 created path mode (Err error) = uncreated path (error_kind error) ∷ []
 
 -- ---- lists of calls
 
--- the bytes of the calls that write
+-- the bytes that the calls write
 abbrev pub bytes_in : List FileCall → List ℕ
 bytes_in [] = []
 bytes_in (Writes bytes ∷ calls) = bytes ++ bytes_in calls
 bytes_in (_ ∷ calls) = bytes_in calls
 
--- a call that only asks, or failed
+-- a call that only reads, or failed
 abbrev pub is_probe : FileCall → Bool
 is_probe (Creates path mode) = false
 is_probe (Opens path) = false
@@ -145,23 +145,23 @@ is_probe (SyncsFolder path) = false
 is_probe (Removes path) = false
 is_probe _ = true
 
--- the calls only ask
+-- the calls only read, or failed
 abbrev pub are_probes : List FileCall → Bool
 are_probes [] = true
 are_probes (call ∷ calls) = is_probe call && are_probes calls
 
--- these paths are taken
+-- the calls that find these paths in use
 abbrev pub taking : List (List ℕ) → List FileCall
 taking paths = map FindsTaken paths
 
--- pieces of a text go to a draft with this mode
+-- the pieces of a text are written to a draft with this mode
 abbrev pub drafting : List ℕ → ℕ → List (List ℕ) → List FileCall
 drafting draft mode pieces = Creates draft mode ∷ map Writes pieces
 
--- the draft is put in the place of the target
+-- the draft replaces the target
 abbrev pub publishing : List ℕ → List ℕ → List ℕ → List FileCall
 publishing draft target folder = Syncs ∷ Renames draft target ∷ SyncsFolder folder ∷ []
 
--- pieces of a text go to what is at a path
+-- the pieces of a text are written to the file at a path
 abbrev pub writing : List ℕ → List (List ℕ) → List FileCall
 writing path pieces = Opens path ∷ map Writes pieces

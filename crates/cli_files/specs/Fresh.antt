@@ -1,4 +1,4 @@
--- The files of the system before a command.
+-- The files of the system before a command runs.
 use Rattle.std.specs.Prelude.{◌≡◌, [], None, option_map, string_bytes}
 use Rattle.std.specs.declared.io.traits.Read.{Ghosts as Reads}
 use Rattle.std.specs.declared.io.traits.Seek.{Ghosts as Seeks}
@@ -7,8 +7,8 @@ use Rattle.cli_files.specs.OutFiles.{Untouched, stage_of}
 use Rattle.cli_files.specs.declared.replaceable.ReplaceRule.TheVariants.{ArchivesBelow}
 use Rattle.cli_files.specs.declared.system_files.SystemFiles.{SystemFiles}
 
--- No input was compared with OUT, which has no path, may replace archives below it and did not fail, for which
--- nothing was called, and of which nothing is published.
+-- No input was compared with OUT. OUT has no path, replaces `ArchivesBelow`, did not fail, has no calls, and was not
+-- published.
 abbrev pub AreFresh : {F T E : Type 0} {reads : Reads T} {writes : Writes T} {seeks : Seeks T} {lists : Reads E}
     → SystemFiles F T E reads writes seeks lists → Type 0
 AreFresh files =

@@ -5,7 +5,7 @@ use Rattle.cli_files.specs.InputStates.{Told, bytes_at, left_in, stage_of}
 use Rattle.cli_files.specs.declared.disks.Disk.{Ghosts as Disks}
 use Rattle.cli_files.specs.declared.input_state.LazyInput.{LazyInput}
 
--- the ghost functions of an input over this disk, and over these kinds of open files
+-- the ghost functions of an input over this disk, and over these two kinds of open files
 abbrev pub told_by : {D I P : Type 0} (disk : Disks D I P) (input : Sources I) (places : Places P)
     → Told (LazyInput D I P disk input places)
 told_by disk input places = record {
@@ -19,7 +19,7 @@ told_by disk input places = record {
   wanting = λ s. disk.wanting s.disk;
 }
 
--- the same, with the three found by inference
+-- the same, with the three arguments inferred
 abbrev pub told : {D I P : Type 0} {disk : Disks D I P} {input : Sources I} {places : Places P}
     → Told (LazyInput D I P disk input places)
 told {disk = disk} {input = input} {places = places} = told_by disk input places

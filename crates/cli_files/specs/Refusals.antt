@@ -1,4 +1,4 @@
--- Why OUT is refused, as the system said it last.
+-- Why OUT is refused, by the last replies of the system.
 use Rattle.std.specs.Prelude.{◌≡◌, ◌≢◌, ◌≤◌, ◌⊎◌, ℕ, Bool, true, false, List, [], ◌∷◌, ◌++◌, length}
 use Rattle.std.specs.Prelude.{Option, Some, None}
 use Rattle.std.specs.IoError.{error_kind}
@@ -17,31 +17,31 @@ use Rattle.cli_files.specs.declared.replaceable.Obstacle.TheVariants as obstacle
 use Rattle.cli_files.specs.declared.replaceable.OutFault.TheVariants as fault
 use Rattle.cli_files.specs.declared.replaceable.ReplaceRule.TheVariants.{ArchivesBelow}
 
--- the last call failed so
+-- the last call failed with this error
 abbrev pub Fails : Error → List FileCall → Type 0
 Fails error calls =
     (before : List FileCall) × (path : List ℕ) × (calls ≡ before ++ failed path (error_kind error) ∷ [])
 
--- At a path is a link that leads to nothing.
+-- A link that leads to nothing is at a path.
 abbrev pub LeadsNowhere : Error → List FileCall → Type 0
 LeadsNowhere error calls =
     (before : List FileCall) × (path : List ℕ) × (error_kind error ≡ kind.NotFound)
     × (calls ≡ before ++ FindsNothing path ∷ FindsLink path ∷ [])
 
--- Of the hundred paths that a draft may have each is taken, but for the target's own.
+-- Each of the hundred names that a draft may have is in use or is the target's own.
 abbrev pub HasNoName : Error → List FileCall → Type 0
 HasNoName error calls =
     (before : List FileCall) × (taken : List (List ℕ)) × (99 ≤ length taken) × (error_kind error ≡ kind.AlreadyExists)
     × (calls ≡ before ++ taking taken)
 
--- The file there begins as an archive does, and nothing came of its comparison with the draft.
+-- The file there has the first bytes of an archive, and its comparison with the draft failed.
 abbrev pub IsUncompared : List FileCall → Type 0
 IsUncompared calls =
     (before : List FileCall) × (path : List ℕ) × (bytes : List ℕ) × IsOfKind ArchivesBelow bytes
     × (calls ≡ before ++ Begins path bytes ∷ [])
 
--- Of two archives, of which the left one is the draft, this comes where reading them stops so. These are the last
--- errors of the draft and of the other one, if they had one.
+-- The fault for two archives, of which the left is the draft, if reading them stops for this cause. The two errors are
+-- the last ones of the draft and of the other archive, if any.
 abbrev pub IsUnread : MergeCause → Option Error → Option Error → OutFault → Type 0
 IsUnread (Left stop) of_draft of_target fault.OutOfMemory = stop.kind ≡ record_fault.OutOfMemory
 IsUnread (Right stop) of_draft of_target fault.OutOfMemory = stop.kind ≡ record_fault.OutOfMemory
@@ -53,7 +53,7 @@ IsUnread (Left stop) of_draft of_target (fault.NotReplaced (obstacle.Refused rea
 IsUnread Write of_draft of_target (fault.NotReplaced (obstacle.Refused reason)) = reason ≡ of_draft
 IsUnread stop of_draft of_target refusal = ⊥
 
--- what is at the target is in the way, as the last calls say
+-- the last calls show that this obstacle at the target prevents its replacement
 abbrev pub IsInTheWay : ReplaceRule → Obstacle → List FileCall → Type 0
 IsInTheWay replaces (obstacle.OtherKind bytes) calls =
     (before : List FileCall) × (path : List ℕ) × (IsOfKind replaces bytes → ⊥)
@@ -69,13 +69,14 @@ IsInTheWay replaces obstacle.Differs calls =
 IsInTheWay replaces (obstacle.Refused None) calls = IsUncompared calls
 IsInTheWay replaces (obstacle.Refused (Some error)) calls = Fails error calls ⊎ IsUncompared calls
 
--- a call that failed, and not for a lack of memory
+-- a call that failed for a reason other than lack of memory
 abbrev pub is_failure : FileCall → Bool
 is_failure (FindsNothing path) = true
 is_failure (Refuses path) = true
 is_failure _ = false
 
--- OUT is refused so, as the last calls say; for a lack of memory only if none failed for another reason.
+-- The last calls show why OUT is refused. The fault is lack of memory only if the last call did not fail for another
+-- reason.
 abbrev pub IsSaid : ReplaceRule → OutFault → List FileCall → Type 0
 IsSaid replaces (fault.NotCreated None) calls = ⊥
 IsSaid replaces (fault.NotCreated (Some error)) calls = Fails error calls ⊎ LeadsNowhere error calls
@@ -84,12 +85,13 @@ IsSaid replaces (fault.NotReplaced obstacle) calls = IsInTheWay replaces obstacl
 IsSaid replaces fault.OutOfMemory calls =
     (before : List FileCall) × (said : FileCall) × (is_failure said ≡ false) × (calls ≡ before ++ said ∷ [])
 
--- A draft was removed, and why that is so stands before it.
+-- The calls end with the removal of a draft, and show the reason before it.
 abbrev pub IsRemovedFor : ReplaceRule → OutFault → List ℕ → List FileCall → Type 0
 IsRemovedFor replaces fault draft calls =
     (asked : List FileCall) × IsSaid replaces fault asked × (calls ≡ asked ++ Removes draft ∷ [])
 
--- OUT, which has this path, if it has one, is refused so: it has none, or the system said why, and a draft was removed.
+-- OUT, with this path, if any, is refused for this reason: it has no path, or the system reported the reason and the
+-- draft, if any, was removed.
 abbrev pub IsRefused : ReplaceRule → Option (List ℕ) → OutFault → List FileCall → Type 0
 IsRefused replaces path refusal calls =
     ((path ≡ None) × (refusal ≡ fault.NotCreated None) × (calls ≡ [])) ⊎ IsSaid replaces refusal calls

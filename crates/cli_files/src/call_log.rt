@@ -5,7 +5,7 @@ ghost use Rattle.std.specs.Borrow.{ftrue};
 
 use std::marker::{Model, PhantomData};
 
-/// What was given to the calls that were noted, in their order.
+/// The arguments of the noted calls, in order.
 #[derive(Drop)]
 pub struct CallLog {
     marker: PhantomData<u8>,

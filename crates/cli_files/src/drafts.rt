@@ -1,5 +1,5 @@
-//! Drafts of OUT: a file of its own beside OUT, which takes the bytes and is renamed when it is whole. What the system
-//! does is in no contract; what is called of it is, and what it said.
+//! Drafts of OUT: a separate file next to OUT, to which the bytes are written, and which is renamed when it is
+//! complete. Contracts cover the calls to the system and its replies, not their effects.
 
 ghost use Rattle.std.specs.Prelude.{◌≡◌, ◌∷◌, ◌++◌, [], ℕ, IfErr, IfOk, List, OnErr, OnOk, false, string_bytes, true};
 ghost use Rattle.std.specs.Path.{path_with_file_name};
@@ -20,23 +20,23 @@ use std::io::{self, ErrorKind};
 use std::path::Path;
 use std::rt::Files;
 
-/// How many names are tried for a draft.
+/// The number of names that are tried for a draft.
 const MOST_NAMES: u32 = 100;
 
-/// The mode of a file that was not there, from which the system takes what the user does not give.
+/// The mode of a new file, from which the system removes the bits of the user's mask.
 const NEW_FILE_MODE: u32 = 0o666;
 
-/// The bits of a mode that say who may read and write.
+/// The bits of a mode for the permissions.
 const PERMISSION_BITS: u32 = 0o777;
 
-/// A file of this run's own, beside the file that it is to replace.
+/// A file of this run, next to the file that it is to replace.
 #[derive(Drop)]
 pub struct Draft<T> {
     pub own: Own<T>,
     pub target: String,
 }
 
-/// The path of the draft of this number.
+/// The path of the draft with this number.
 fn draft_path(alloc: Global, target: &str, process: u32, number: u32) -> Result<String, NoMemory>
     ensures { IfOk result
         (λ path. string_bytes path ≡ path_with_file_name target.now (draft_name process number)) }
@@ -49,7 +49,7 @@ fn draft_path(alloc: Global, target: &str, process: u32, number: u32) -> Result<
     )
 }
 
-/// The mode of a draft that replaces this file: its permissions, without set-id bits.
+/// The mode of a draft that replaces this file: its permissions without set-id bits, or that of a new file.
 fn mode_of(there: &Option<Found>) -> u32
     ensures { result ≡ draft_mode there.now }
 {
@@ -59,7 +59,7 @@ fn mode_of(there: &Option<Found>) -> u32
     }
 }
 
-/// Creates a draft beside the target, with a name that no file has, for those who may use what is there.
+/// Creates a draft next to the target, under a name that is not in use, with the mode of the file there.
 pub fn create_draft<F: Files>(
     alloc: Global,
     system: &System<'_, F>,
@@ -94,7 +94,7 @@ pub fn create_draft<F: Files>(
     Err(OutFault::NotCreated(Some(taken)))
 }
 
-/// The folder that a path stands in.
+/// The folder of a path.
 fn folder_of(path: &str) -> &str
     ensures { result.now ≡ folder_of path.now }
 {
@@ -111,7 +111,7 @@ pub fn remove_draft<F: Files, T>(system: &System<'_, F>, draft: &Draft<T>, calls
     system.remove(&draft.own, calls);
 }
 
-/// Puts a draft in the place of what it is to replace, or removes it. Its bytes are on the disk before it is renamed.
+/// Replaces the target by a draft, or removes the draft. Its bytes are synced to the disk before it is renamed.
 pub fn put_draft<F: Files>(
     alloc: Global,
     system: &System<'_, F>,
@@ -144,7 +144,7 @@ pub fn put_draft<F: Files>(
     Ok(())
 }
 
-/// Whether a draft may be put in the place of what is there.
+/// Tests whether a draft may replace the file at the target.
 fn check_place<F: Files>(
     alloc: Global,
     system: &System<'_, F>,

@@ -1,4 +1,4 @@
-//! What was called of the system for one output, in order, and what it said. Only clauses read it: it takes no memory,
+//! The calls to the system for one output, in order, with the replies. Only clauses read them: the list uses no memory,
 //! and its methods do nothing at run time.
 
 ghost use Rattle.std.specs.Prelude.{◌≡◌, List, [], ◌∷◌, ◌++◌};
@@ -13,8 +13,8 @@ use crate::opened_file::LeadingBytes;
 use std::io::{self, ErrorKind};
 use std::marker::{Model, PhantomData};
 
-/// The calls that were made for one output, and what the system said. A call stands there once the system said that it
-/// was done, and one that failed by that; of the removal of a draft and the sync of its folder that is not asked.
+/// The calls to the system for one output, with the replies. A call is noted when the system reported that it was done;
+/// a failed call is noted as a failure. The results of removing a draft and of syncing its folder are not read.
 #[derive(Drop)]
 pub struct FileCalls {
     marker: PhantomData<u8>,
@@ -26,7 +26,7 @@ impl Model for FileCalls {
 }
 
 impl FileCalls {
-    /// None.
+    /// No calls.
     pub fn new() -> FileCalls
         ensures { result.entries ≡ [] }
     {
@@ -35,12 +35,12 @@ impl FileCalls {
         }
     }
 
-    // The number of a call stands for its name, since a ghost list takes only numbers; what the system said follows it.
+    // Notes a call. Its number is its name, since a ghost list takes only numbers; the numbers of the reply follow.
     fn note(&mut self, _numbers: &[u64], _path: &[u8], _other: &[u8])
         ensures { self.new.entries ≡ self.old.entries ++ call_of _numbers.now _path.now _other.now ∷ [] }
     {}
 
-    /// A path was asked of, and the system said this.
+    /// Notes the metadata that the system reported for a path, or the failure.
     pub fn note_metadata(&mut self, path: &str, answer: io::Result<Found>) -> io::Result<Found>
         ensures calls { self.new.entries ≡ self.old.entries ++ found path.now answer }
         ensures same { result ≡ answer }
@@ -52,7 +52,7 @@ impl FileCalls {
         answer
     }
 
-    // What the system said of a file.
+    // Notes the file that the system reported for a path.
     fn note_file(&mut self, path: &str, found: &Found)
         ensures { self.new.entries ≡ self.old.entries ++ Finds path.now found.now ∷ [] }
     {
@@ -72,7 +72,7 @@ impl FileCalls {
         );
     }
 
-    /// It was asked whether a path itself is a link.
+    /// Notes whether the path itself is a link.
     pub fn note_is_link(&mut self, path: &str, is_link: bool) -> bool
         ensures calls { self.new.entries ≡ self.old.entries ++ linked path.now is_link }
         ensures same { result ≡ is_link }
@@ -85,7 +85,7 @@ impl FileCalls {
         is_link
     }
 
-    /// It was asked which path a path leads to.
+    /// Notes the path that a path leads to, or the failure.
     pub fn note_canonical(&mut self, path: &str, answer: io::Result<String>) -> io::Result<String>
         ensures calls { self.new.entries ≡ self.old.entries ++ led path.now answer }
         ensures same { result ≡ answer }
@@ -97,7 +97,7 @@ impl FileCalls {
         answer
     }
 
-    /// The first bytes of the file at a path were read; `None` if it is empty.
+    /// Notes the first bytes of the file at a path, or the failure; `None` if it is empty.
     pub fn note_beginning(&mut self, path: &str, answer: &io::Result<Option<LeadingBytes>>)
         ensures { self.new.entries ≡ self.old.entries ++ begun path.now answer.now }
     {
@@ -108,7 +108,7 @@ impl FileCalls {
         }
     }
 
-    /// The next bytes of the file at a path were read.
+    /// Notes the next bytes that were read from the file at a path, or the failure.
     pub fn note_read(&mut self, path: &str, bytes: &[u8], answer: &io::Result<()>)
         ensures { self.new.entries ≡ self.old.entries ++ answered (Gives path.now bytes.now) path.now answer.now }
     {
@@ -118,14 +118,14 @@ impl FileCalls {
         }
     }
 
-    /// The archive at the first path neither has nor covers so many records of the one at the second.
+    /// Notes that the archive at `draft` neither has nor covers `lost` records of the archive at `target`.
     pub fn note_losses(&mut self, draft: &str, target: &str, lost: u64)
         ensures { self.new.entries ≡ self.old.entries ++ Compares draft.now target.now lost ∷ [] }
     {
         self.note(&[14, lost], draft.as_bytes(), target.as_bytes());
     }
 
-    /// A file was opened to be read, of which only a failure is noted.
+    /// Notes the failure to open a file for reading; success is not noted.
     pub fn note_failed_open<T>(&mut self, path: &str, answer: io::Result<T>) -> io::Result<T>
         ensures calls { self.new.entries ≡ self.old.entries ++ refused path.now answer }
         ensures same { result ≡ answer }
@@ -136,7 +136,7 @@ impl FileCalls {
         answer
     }
 
-    /// What is there was to be opened and emptied.
+    /// Notes that an existing file was opened and truncated, or the failure.
     pub fn note_truncate<T>(&mut self, path: &str, answer: io::Result<T>) -> io::Result<T>
         ensures calls { self.new.entries ≡ self.old.entries ++ answered (Opens path.now) path.now answer }
         ensures same { result ≡ answer }
@@ -148,7 +148,7 @@ impl FileCalls {
         answer
     }
 
-    /// A file was to be created that was not there, with this mode.
+    /// Notes that a new file was created with this mode, or the failure.
     pub fn note_create<T>(&mut self, path: &str, mode: u32, answer: io::Result<T>) -> io::Result<T>
         ensures calls { self.new.entries ≡ self.old.entries ++ created path.now mode answer }
         ensures same { result ≡ answer }
@@ -165,14 +165,14 @@ impl FileCalls {
         answer
     }
 
-    /// Bytes were written to the file that was created or opened.
+    /// Notes bytes that were written to the file that was created or opened.
     pub fn note_write(&mut self, bytes: &[u8])
         ensures { self.new.entries ≡ self.old.entries ++ Writes bytes.now ∷ [] }
     {
         self.note(&[2], bytes, &[]);
     }
 
-    /// Its bytes, which are at this path, were to be on the disk.
+    /// Notes that the written bytes, at this path, were synced to the disk, or the failure.
     pub fn note_sync(&mut self, path: &str, answer: io::Result<()>) -> io::Result<()>
         ensures calls { self.new.entries ≡ self.old.entries ++ answered Syncs path.now answer }
         ensures same { result ≡ answer }
@@ -184,7 +184,7 @@ impl FileCalls {
         answer
     }
 
-    /// A file was to get the path of another one, which is gone then.
+    /// Notes that the draft was renamed to the target, which it replaces, or the failure.
     pub fn note_rename(
         &mut self,
         draft: &str,
@@ -202,21 +202,21 @@ impl FileCalls {
         answer
     }
 
-    /// The names of a folder were to be on the disk.
+    /// Notes that a folder was to be synced to the disk; the result is not noted.
     pub fn note_sync_folder(&mut self, path: &str)
         ensures { self.new.entries ≡ self.old.entries ++ SyncsFolder path.now ∷ [] }
     {
         self.note(&[5], path.as_bytes(), &[]);
     }
 
-    /// A file was to be removed.
+    /// Notes that a file was to be removed; the result is not noted.
     pub fn note_remove(&mut self, path: &str)
         ensures { self.new.entries ≡ self.old.entries ++ Removes path.now ∷ [] }
     {
         self.note(&[6], path.as_bytes(), &[]);
     }
 
-    // A call of a path failed, of which the system said this.
+    // Notes that a call on a path failed with this error.
     fn note_failure(&mut self, path: &str, error: &io::Error)
         ensures { self.new.entries ≡ self.old.entries ++ failed path.now (error_kind error.now) ∷ [] }
     {

@@ -1,9 +1,9 @@
-//! What the system says of a file.
+//! The metadata of a file, as the system reports it.
 
 ghost use Rattle.std.specs.Prelude.{◌≡◌};
 ghost use Rattle.cli_files.specs.Identities.{is_one};
 
-/// What the system says of the file that a path leads to.
+/// The metadata of the file that a path leads to, as the system reports it.
 #[derive(Clone, Copy)]
 pub struct Found {
     pub is_file: bool,
@@ -16,8 +16,8 @@ pub struct Found {
 }
 
 impl Found {
-    /// Whether these are one regular file: all its paths and links name one device, and one number on it. A number of 0
-    /// counts as unknown.
+    /// Whether both are one regular file: all paths and links to a file have the same device and the same file number
+    /// there. A number of 0 counts as unknown.
     pub fn is_one(&self, other: &Found) -> bool
         ensures { result ≡ is_one self.now other.now }
     {

@@ -26,7 +26,8 @@ fn is_same_file<F: Files>(
     }
 }
 
-/// Whether none of these paths names the regular file that `path` names. They are asked of up to the first that does.
+/// Whether none of these paths names the regular file that `path` names. They are read in order, up to the first that
+/// does.
 pub fn none_is_same_file<F: Files>(
     system: &System<'_, F>,
     path: &str,

@@ -1,5 +1,4 @@
-//! An input that is opened at its first read: with the first call for its bytes, be it for those that come next, or for
-//! some from a place.
+//! An input that is opened at its first read: by the first call for its bytes, in order or at an offset.
 
 ghost use Rattle.std.proofs.Props.{props};
 ghost use Rattle.std.specs.Prelude.{◌≡◌, ◌≢◌, ◌≤◌, List, ◌∷◌, [], Some, None, IfOk, OnOk, length, option_map};
@@ -15,16 +14,16 @@ use byte_device::{CannotOpen, Failed, Placed, Source};
 use byte_lazy_inputs::{Opening, Opens};
 use memory::NoMemory;
 
-/// How far an input is.
+/// The state of an input.
 #[derive(Drop)]
 enum InputState<I, P> {
-    /// No byte was asked for.
+    /// It was not read yet.
     Waiting,
     /// It was opened, and is read from its start.
     Open(I),
-    /// It was opened, and is read from any place.
+    /// It was opened, and is read at any offset.
     Placed(P),
-    /// It was not, for this reason.
+    /// It was not opened, for this reason.
     Unopened(Unopened),
 }
 
@@ -35,28 +34,28 @@ pub enum Unopened {
     OutOfMemory,
 }
 
-/// The file at a path of a disk, which is opened with the first call for its bytes. Where it is not opened that call
-/// fails, and so does each after it: nothing is tried again.
+/// The file at a path of a disk, which is opened by the first call for its bytes. If it cannot be opened, that call and
+/// all later ones fail: opening is not tried again.
 #[derive(Drop)]
 pub struct LazyInput<'l, D: Disk> {
     disk: D,
     path: &'l str,
     state: InputState<D::Input, D::Places>,
     failures: u64,
-    // The disk, which is its own, opened its path, once, or nothing while no byte was asked for.
+    // Its own disk opened its path once, or nothing before the first read.
     ghost log: { (paths : List Path) → D.opened disk ≡ Some paths → paths ≡ opened_in (stage_of state) path.now },
-    // Memory ran out where the disk says so.
+    // The paths at which memory ran out are those that the disk reports.
     ghost wants: { (paths : List Path) → D.wanting disk ≡ Some paths → paths ≡ wanting_in (stage_of state) path.now },
-    // What is not there is not open, and what is known to be there is not refused.
+    // A missing file is not open, and a file that is known to exist is not refused.
     ghost fits: { ∥ IsStateOf (D.file_at disk path.now) (stage_of state) ∥₁ },
-    // One that is read from any place has the bytes of the file, where these are known.
+    // A file that is read at any offset has the bytes of the file, where these are known.
     ghost holds: { HoldsFile D.Places.whole (D.file_at disk path.now) state } by { Prim.hlevel props },
-    // One that was not opened failed.
+    // An input that was not opened counts a failure.
     ghost failed: { unopened_in (stage_of state) ≢ None → failures ≢ 0 },
 }
 
 impl<'l, D: Disk> LazyInput<'l, D> {
-    /// The file at this path of a disk that opened nothing.
+    /// The file at this path of a disk that has opened nothing.
     pub fn new(disk: D, path: &'l str) -> Self
         requires opened { (paths : List Path) → D.opened disk ≡ Some paths → paths ≡ [] }
         requires wanting { (paths : List Path) → D.wanting disk ≡ Some paths → paths ≡ [] }
@@ -73,7 +72,7 @@ impl<'l, D: Disk> LazyInput<'l, D> {
         }
     }
 
-    /// Why it was not opened, if it was read and was not.
+    /// The reason why opening failed, if it did.
     pub fn unopened(&self) -> Option<Unopened>
         ensures { result ≡ unopened_in (stage_of self.now.state) }
     {
@@ -93,7 +92,7 @@ impl<'l, D: Disk> LazyInput<'l, D> {
         }
     }
 
-    /// The file, if it was opened to be read from any place.
+    /// The file, if it was opened to be read at any offset.
     pub fn places(&self) -> Option<&D::Places>
         ensures { option_map (λ places. places.now) result ≡ places_in self.now.state }
     {
@@ -104,7 +103,7 @@ impl<'l, D: Disk> LazyInput<'l, D> {
     }
 }
 
-/// Opens the file at a path.
+/// Opens the file at a path to be read from its start, and returns the state.
 fn open<D: Disk>(disk: &mut D, path: &str) -> InputState<D::Input, D::Places>
     ensures state { GivesState D.Input.left D.Input.failures D.path_of (D.file_at disk.old path.now) result }
     ensures files { D.file_at disk.new ≡ D.file_at disk.old }
@@ -118,7 +117,7 @@ fn open<D: Disk>(disk: &mut D, path: &str) -> InputState<D::Input, D::Places>
     }
 }
 
-/// Opens the file at a path, to be read from any place.
+/// Opens the file at a path to be read at any offset, and returns the state.
 fn open_places<D: Disk>(disk: &mut D, path: &str) -> InputState<D::Input, D::Places>
     ensures state { GivesPlaces D.Places.whole D.Places.failures D.opened_at (D.file_at disk.old path.now) result }
     ensures files { D.file_at disk.new ≡ D.file_at disk.old }
@@ -132,8 +131,8 @@ fn open_places<D: Disk>(disk: &mut D, path: &str) -> InputState<D::Input, D::Pla
     }
 }
 
-/// Opens the file of an input that waits.
-fn begin<D: Disk>(disk: &mut D, path: &str, state: &mut InputState<D::Input, D::Places>)
+/// Opens the file of an input that was not read yet.
+fn open_if_waiting<D: Disk>(disk: &mut D, path: &str, state: &mut InputState<D::Input, D::Places>)
     ensures files { D.file_at disk.new ≡ D.file_at disk.old }
     ensures waited { stage_of state.old ≡ Waiting
         → (D.opened disk.new ≡ opened_with (D.opened disk.old) (path.now ∷ []))
@@ -150,7 +149,7 @@ fn begin<D: Disk>(disk: &mut D, path: &str, state: &mut InputState<D::Input, D::
     }
 }
 
-/// Opens the file of an input that waits, to be read from any place.
+/// Opens the file of an input that was not read yet, to be read at any offset.
 fn begin_places<D: Disk>(disk: &mut D, path: &str, state: &mut InputState<D::Input, D::Places>)
     ensures files { D.file_at disk.new ≡ D.file_at disk.old }
     ensures waited { stage_of state.old ≡ Waiting
@@ -168,7 +167,7 @@ fn begin_places<D: Disk>(disk: &mut D, path: &str, state: &mut InputState<D::Inp
     }
 }
 
-/// Takes bytes of an input that is open; another one fails.
+/// Reads bytes from an input that is open to be read from its start; fails for any other.
 fn pull_open<I: Source, P: Placed>(
     state: &mut InputState<I, P>,
     buf: &mut [u8],
@@ -186,7 +185,7 @@ fn pull_open<I: Source, P: Placed>(
     }
 }
 
-/// Takes bytes from a place of an input that is open for that; another one fails.
+/// Reads bytes at an offset from an input that is open for that; fails for any other.
 #[tactic(auto, using(crate::proofs::PlacesHeld::held_taken))]
 fn take_open<I: Source, P: Placed>(
     state: &mut InputState<I, P>,
@@ -206,7 +205,7 @@ fn take_open<I: Source, P: Placed>(
     }
 }
 
-/// How many bytes an input has that is open for that; another one fails.
+/// The size in bytes of an input that is open to be read at any offset; fails for any other.
 #[tactic(auto, using(crate::proofs::PlacesHeld::held_size))]
 fn size_open<I: Source, P: Placed>(state: &mut InputState<I, P>) -> Result<u64, Failed>
     ensures stage { stage_of state.new ≡ stage_of state.old }
@@ -229,7 +228,7 @@ impl<'l, D: Disk> Source for LazyInput<'l, D> {
         if self.failures == u64::MAX {
             return Err(Failed);
         }
-        begin(&mut self.disk, self.path, &mut self.state);
+        open_if_waiting(&mut self.disk, self.path, &mut self.state);
         match pull_open(&mut self.state, buf) {
             Ok(n) => Ok(n),
             Err(Failed) => {

@@ -1,4 +1,4 @@
-//! The inputs of a command, each of which is opened at its first read.
+//! The inputs of a command, each opened at its first read.
 
 ghost use Rattle.std.specs.Prelude.{◌≡◌, ◌++◌, [], OnOk, map};
 ghost use Rattle.cli_files.specs.LazyInputs.{told};
@@ -11,10 +11,10 @@ use memory::NoMemory;
 use std::alloc::Global;
 use std::rt::Files;
 
-/// An input of the system.
+/// An input from the system.
 pub type SystemInput<'l, 'a, F> = LazyInput<'l, SystemDisk<'a, F>>;
 
-/// Makes an input for each of these paths, which is noted.
+/// Makes an input for each of these paths, and notes the path.
 pub fn make_inputs<'l, 'a, F: Files>(
     alloc: Global,
     files: &'a F,

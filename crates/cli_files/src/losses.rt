@@ -1,4 +1,4 @@
-//! What would be lost of an archive where a draft takes its place.
+//! The records that an archive would lose if a draft replaced it.
 
 ghost use Rattle.std.specs.Prelude.{◌≡◌, ◌≢◌, ◌≤◌, ◌⊎◌, ◌∷◌, ◌++◌, IfErr, IfOk, List, None, OnErr, OnOk, Some, []};
 ghost use Rattle.std.specs.Prelude.{length, true, ℕ};
@@ -28,8 +28,8 @@ use std::alloc::Global;
 use std::io::{self, ErrorKind, Read};
 use std::rt::Files;
 
-/// Tests whether an archive may take the place of what is at its target: nothing, an empty file, or an archive that has
-/// no record which the draft neither has nor covers.
+/// Tests whether a draft may replace the file at its target: nothing, an empty file, or an archive of which the draft
+/// has or covers each record.
 pub fn check_losses<'d, 't, F: Files>(
     alloc: Global,
     system: &System<'_, F>,
@@ -56,7 +56,7 @@ pub fn check_losses<'d, 't, F: Files>(
     }
 }
 
-/// How many records of the archive at the target the draft neither has nor covers.
+/// The number of records of the archive at the target that the draft neither has nor covers.
 fn lost_at<'d, 't, F: Files>(
     alloc: Global,
     system: &System<'_, F>,
@@ -81,7 +81,7 @@ fn lost_at<'d, 't, F: Files>(
     lost_between(&heap, &mut new, &mut old, calls)
 }
 
-/// How many records of the old archive the new one neither has nor covers.
+/// The number of records of the old archive that the new one neither has nor covers.
 fn lost_between<'d, 't, R: Read + Drop>(
     heap: &Heap,
     new: &mut ArchiveSide<'d, R>,
@@ -137,7 +137,7 @@ pub fn replaceable_beginning<F: Files>(
     Ok(beginning)
 }
 
-/// The first bytes of the file at a path: `None` if it is empty, or nothing is there.
+/// The first bytes of the file at a path; `None` if it is empty or absent.
 fn beginning_at<F: Files>(
     system: &System<'_, F>,
     path: &str,
@@ -159,7 +159,7 @@ fn beginning_at<F: Files>(
     system.open(path, false, calls)?.beginning(size, calls)
 }
 
-/// The archive at a path, read from its beginning.
+/// Opens the archive at a path, to be read from its start.
 fn side_at<'p, F: Files>(
     alloc: Global,
     system: &System<'_, F>,
@@ -184,7 +184,7 @@ fn side_at<'p, F: Files>(
     }
 }
 
-/// The fault where the system refused.
+/// The fault for a call that the system refused.
 fn refused(error: io::Error) -> OutFault
     ensures said { (calls : List FileCall) (replaces : ReplaceRule) → Fails error calls ⊎ IsUncompared calls
         → IsSaid replaces result calls }
@@ -201,8 +201,8 @@ fn refused(error: io::Error) -> OutFault
     }
 }
 
-/// The fault where one of the two archives was not read to its end, with what the system said of each. The draft was
-/// written by this command: where it cannot be read, its device is why.
+/// The fault if one of the two archives was not read to its end, with the last error of each. This command wrote the
+/// draft, so if the draft cannot be read, its device is the cause.
 fn unread(fault: MergeFault, of_draft: Option<io::Error>, of_target: Option<io::Error>) -> OutFault
     ensures { IsUnread fault.cause of_draft of_target result }
 {

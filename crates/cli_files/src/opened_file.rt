@@ -8,16 +8,16 @@ use crate::call_log::CallLog;
 use byte_device::{Failed, Reading, Source};
 use std::io::{self, Read};
 
-/// How many of the first bytes of a file are kept.
+/// The number of first bytes of a file that are kept.
 pub const LEADING_LEN: usize = 8;
 
-/// The first bytes of a file, as far as it was read, with zeros after them.
+/// The first bytes of a file, as far as it was read, padded with zeros.
 pub type LeadingBytes = [u8; LEADING_LEN];
 
-/// The reader of a file that was opened at a path. It is closed at its end, and gives no more bytes then.
+/// The reader of a file that was opened at a path. It is closed at its end, and then returns no more bytes.
 #[derive(Drop)]
 pub struct OpenedFile<R> {
-    // None where it is closed.
+    // `None` once it is closed.
     reading: Option<Reading<R>>,
     failures: u64,
     leading_bytes: LeadingBytes,
@@ -27,7 +27,7 @@ pub struct OpenedFile<R> {
 }
 
 impl<R: Read + Drop> OpenedFile<R> {
-    /// The file that this reader reads, which was opened at this path.
+    /// A reader of the file that was opened at this path.
     pub fn new(reader: R, path: &str) -> Self
         ensures path { result.at.entries ≡ path.now ∷ [] }
         ensures leading { result.leading_bytes ≡ replicate 8 0 }
@@ -62,7 +62,8 @@ impl<R: Read + Drop> OpenedFile<R> {
     }
 }
 
-/// Keeps bytes that come after so many, where they are among the first, and gives how many came then.
+/// Keeps those of `bytes`, which follow the first `read` bytes of the file, that are among its first eight. Returns the
+/// number of the first eight that were read by then.
 pub(crate) fn keep(leading_bytes: &mut LeadingBytes, read: usize, bytes: &[u8]) -> usize
     ensures bytes { leading_bytes.new ≡ kept leading_bytes.old read bytes.now }
     ensures count { result ≡ kept_count read (length bytes.now) }
@@ -75,7 +76,7 @@ pub(crate) fn keep(leading_bytes: &mut LeadingBytes, read: usize, bytes: &[u8]) 
     read + most
 }
 
-/// Takes bytes of a file, and closes it where there are no more.
+/// Reads bytes of a file, and closes it at its end.
 fn pull_open<R: Read + Drop>(
     reading: &mut Option<Reading<R>>,
     buf: &mut [u8],
@@ -108,7 +109,7 @@ impl<R: Read + Drop> Source for OpenedFile<R> {
             (left_of ⟦<Reading<R> as Source>⟧.left self.new.reading) result buf.new }
         ensures count { CountsFailure self.old.failures self.new.failures result }
 
-        // At its end it is closed.
+        // It is closed at its end.
         ensures closed { result ≡ Ok 0 → 0 < length buf.new → self.new.reading ≡ None }
         ensures leading { IfOk result
             (λ n. self.new.leading_bytes ≡ kept self.old.leading_bytes self.old.read (take n buf.new)) }

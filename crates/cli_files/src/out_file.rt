@@ -1,5 +1,5 @@
-//! OUT, whose draft is created with its first bytes, and published when it is whole. What the files hold is in no
-//! contract; what was called of the system is.
+//! OUT, whose draft is created at its first bytes, and published when it is complete. Contracts cover the calls to the
+//! system, not the contents of the files.
 
 ghost use Rattle.std.specs.Prelude.{◌≡◌, ◌≢◌, ◌⊎◌, ◌≤◌, ◌<◌, ◌-◌, ◌^◌, ℕ, List, Option, None, Some, IfErr, IfSome};
 ghost use Rattle.std.specs.Prelude.{IfOk};
@@ -25,11 +25,12 @@ use std::io::{self, Write};
 use std::mem;
 use std::rt::Files;
 
-/// How often a device fails at most.
+/// The greatest number of failures that a device counts.
 pub const MOST_FAILURES: u64 = u64::MAX;
 
-/// OUT before it is published. It begins with the first bytes, so that a command that is refused before them leaves
-/// nothing; a push of no bytes begins nothing. Bytes go to a draft beside OUT, or to OUT where that is no regular file.
+/// OUT before it is published. The first bytes create it, so a command that is refused before them leaves nothing; a
+/// push of no bytes creates nothing. The bytes are written to a draft next to OUT, or to OUT itself if that is no
+/// regular file, or its path a descriptor.
 #[derive(Drop)]
 pub struct OutFile<'a, F: Files> {
     alloc: Global,
@@ -39,34 +40,35 @@ pub struct OutFile<'a, F: Files> {
     replaces: ReplaceRule,
     state: OutState<F::File>,
     failures: u64,
-    /// Why it took no bytes last, if the system said.
+    /// Why the last write failed, if the system reported that.
     reason: Option<io::Error>,
     calls: FileCalls,
-    // What was called is what its state says: nothing before the first bytes and once it was handed on, and nothing
-    // where neither bytes nor a failure came.
+    // The calls are those of its state: none before the first bytes and none once they were handed on. If no bytes were
+    // written and nothing failed, there are no calls.
     ghost so_far: { ∥ IsSoFar replaces (option_map string_bytes path) (stage_of state) calls.entries ∥₁ },
     ghost empty: { has_calls (stage_of state) ≡ false → calls.entries ≡ [] },
     ghost first: { took_nothing (bytes_in calls.entries) failures ≡ true → calls.entries ≡ [] },
 }
 
-/// How far an [`OutFile`] is.
+/// The state of an [`OutFile`].
 #[derive(Drop)]
 enum OutState<T> {
-    /// No byte came.
+    /// No byte was pushed yet.
     Untouched,
-    /// Bytes go to what is at the path.
+    /// Bytes are written to the file at the path.
     Through(T),
-    /// Bytes go to a draft.
+    /// Bytes are written to a draft.
     Drafted(Draft<T>),
-    /// It could not be begun, or not be published.
+    /// It could not be created, or not be published.
     Refused(OutFault),
     /// Its draft was removed.
     Removed,
-    /// It was published, and what was called for it handed on.
+    /// It was published, and its calls were handed on.
     Settled,
 }
 
-/// Opens the file at OUT's path if it is no regular file, and else creates a draft next to it.
+/// Opens the file at OUT's path if it is no regular file or the path is a descriptor, and otherwise creates a draft
+/// next to it.
 #[tactic(auto, using(crate::proofs::Publishings::begun_drafted, crate::proofs::Publishings::probes_bytes))]
 fn open_out<F: Files>(
     alloc: Global,
@@ -95,7 +97,7 @@ fn open_out<F: Files>(
     }
 }
 
-/// Opens OUT, and returns its state; without a path it is refused.
+/// Opens OUT, and returns its state: refused if it has no path.
 fn opened_state<F: Files>(
     alloc: Global,
     system: &System<'_, F>,
@@ -118,7 +120,7 @@ fn opened_state<F: Files>(
     }
 }
 
-/// Opens OUT if no bytes came before.
+/// Opens OUT before its first bytes; later calls do nothing.
 fn open_if_untouched<F: Files>(
     alloc: Global,
     system: &System<'_, F>,
@@ -142,8 +144,8 @@ fn open_if_untouched<F: Files>(
     }
 }
 
-/// Writes some first bytes, and says how many; `Err` with what the system said where the file took none, and with
-/// `None` where there is no file.
+/// Writes some first bytes, and returns their number. Fails with the error of the system if the write failed, or with
+/// `None` if no file is open.
 fn write<T: Write>(state: &mut OutState<T>, bytes: &[u8]) -> Result<usize, Option<io::Error>>
     ensures bound { IfOk result (λ n. n ≤ length bytes.now) }
     ensures bytes { WritesTo T.contents state.old state.new result bytes.now }
@@ -159,8 +161,7 @@ fn write<T: Write>(state: &mut OutState<T>, bytes: &[u8]) -> Result<usize, Optio
     }
 }
 
-/// Publishes the bytes that were written, and reports whether that was done. A draft that could not be renamed is
-/// removed.
+/// Publishes the written bytes, and returns whether that was done. A draft that could not be renamed is removed.
 fn publish_state<F: Files>(
     alloc: Global,
     system: &System<'_, F>,
@@ -219,7 +220,7 @@ fn remove<F: Files>(system: &System<'_, F>, state: &mut OutState<F::File>, calls
 }
 
 impl<'a, F: Files> OutFile<'a, F> {
-    /// A file without a path, which is never begun. Drafts are named for this process.
+    /// A file without a path, which is never created. The names of drafts contain the number of this process.
     pub fn new(alloc: Global, files: &'a F, process: u32) -> Self
         ensures path { result.path ≡ None }
         ensures replaces { result.replaces ≡ ArchivesBelow }
@@ -240,7 +241,7 @@ impl<'a, F: Files> OutFile<'a, F> {
         }
     }
 
-    /// Takes a path.
+    /// Sets the path.
     pub fn set_path(&mut self, path: String)
         requires { stage_of self.old.state ≡ Untouched }
         ensures path { self.new.path ≡ Some path }
@@ -252,7 +253,7 @@ impl<'a, F: Files> OutFile<'a, F> {
         self.path = Some(path);
     }
 
-    /// Takes which files that are at its path may be replaced.
+    /// Sets which files at its path may be replaced.
     pub fn set_rule(&mut self, replaces: ReplaceRule)
         requires { stage_of self.old.state ≡ Untouched }
         ensures path { self.new.path ≡ self.old.path }
@@ -264,7 +265,7 @@ impl<'a, F: Files> OutFile<'a, F> {
         self.replaces = replaces;
     }
 
-    /// Why it was not begun, or not published, if it was not.
+    /// The reason why it was not created or not published, if it was not.
     pub fn fault(&self) -> Option<OutFault>
         ensures { result ≡ fault_of (stage_of self.now.state) }
     {
@@ -274,7 +275,7 @@ impl<'a, F: Files> OutFile<'a, F> {
         }
     }
 
-    /// What the system said where it failed, if it did.
+    /// The error of the system, if one of its calls failed.
     pub fn reason(&self) -> Option<io::Error>
         ensures { result ≡ reason_of (stage_of self.now.state) self.now.reason }
     {
@@ -286,7 +287,7 @@ impl<'a, F: Files> OutFile<'a, F> {
         }
     }
 
-    /// Why what is at its path was not replaced, if it was not.
+    /// The reason why the file at its path was not replaced, if it was not.
     pub fn obstacle(&self) -> Option<Obstacle>
         ensures { result ≡ obstacle_of (stage_of self.now.state) }
     {
@@ -296,7 +297,7 @@ impl<'a, F: Files> OutFile<'a, F> {
         }
     }
 
-    /// Publishes what was written, and hands on what was called for it. A draft that could not be put there is
+    /// Publishes the written bytes, and hands on the calls that were made. A draft that could not be renamed is
     /// removed.
     pub fn publish_written(&mut self) -> Option<Published>
         ensures published { IfSome result (λ published.
@@ -368,11 +369,11 @@ impl<'a, F: Files> Sink for OutFile<'a, F> {
             self.new.replaces self.new.calls.entries)) result bytes.now }
         ensures count { CountsFailure self.old.failures self.new.failures result }
 
-        // The bytes that it is given are what is written.
+        // The pushed bytes are the bytes that are written.
         ensures written { 0 < length bytes.now → self.old.failures ≢ 2 ^ 64 - 1
             → WritesBegun ⟦<F::File as Write>⟧.contents self.old.state self.new.state result bytes.now }
 
-        // No bytes begin nothing, and what was not begun or not published stays so.
+        // A push of no bytes creates nothing. OUT stays as it is if it was not created or not published.
         ensures path { self.new.path ≡ self.old.path }
         ensures replaces { self.new.replaces ≡ self.old.replaces }
         ensures empty { bytes.now ≡ [] → self.new.state ≡ self.old.state }

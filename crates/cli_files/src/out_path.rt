@@ -8,7 +8,7 @@ use crate::published::Published;
 use byte_device::{Failed, Target};
 use std::rt::Files;
 
-/// What was published as OUT, if anything was, and how often publishing failed.
+/// The published OUT, if there is one, and the number of failed attempts to publish.
 #[derive(Drop)]
 pub struct OutTarget<'a, F: Files> {
     files: &'a F,
@@ -17,7 +17,7 @@ pub struct OutTarget<'a, F: Files> {
 }
 
 impl<'a, F: Files> OutTarget<'a, F> {
-    /// A path at which nothing was put.
+    /// A path at which nothing was published.
     pub fn new(files: &'a F) -> Self
         ensures published { result.published ≡ None }
         ensures failures { result.failures ≡ 0 }

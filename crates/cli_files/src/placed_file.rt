@@ -1,4 +1,4 @@
-//! A file of the system that was opened to be read from any place.
+//! A file of the system that was opened to be read at any offset.
 
 ghost use Rattle.std.specs.Prelude.{◌≡◌, ◌==◌, ◌≤◌, ◌∷◌, [], IfOk, OnErr, is_some, length, not, replicate, take};
 ghost use Rattle.byte_device.specs.Places.{TakenAt};
@@ -15,12 +15,12 @@ pub struct PlacedFile<R> {
     placing: Placing<R>,
     // Its path, which only clauses read.
     at: CallLog,
-    // Its first bytes, once they were taken.
+    // Its first bytes, once they were read.
     leading_bytes: LeadingBytes,
 }
 
 impl<R: Read + Seek + Drop> PlacedFile<R> {
-    /// The file of this reader, which was opened at this path.
+    /// A reader of the file that was opened at this path.
     pub fn new(reader: R, path: &str) -> Self
         ensures path { result.at.entries ≡ path.now ∷ [] }
         ensures leading { result.leading_bytes ≡ replicate 8 0 }
@@ -34,7 +34,7 @@ impl<R: Read + Seek + Drop> PlacedFile<R> {
         }
     }
 
-    /// Its first bytes, if they were taken; else zeros.
+    /// Its first bytes, if they were read; else zeros.
     pub fn leading_bytes(&self) -> LeadingBytes
         ensures { result ≡ self.now.leading_bytes }
     {
@@ -79,7 +79,7 @@ impl<R: Read + Seek + Drop> Placed for PlacedFile<R> {
         Ok(count)
     }
 
-    // A folder has a size too, and no byte of it can be read.
+    // A folder has a size too, but none of its bytes can be read.
     fn size(&mut self) -> Result<u64, Failed> {
         self.placing.take_at(0, &mut [0])?;
         self.placing.size()

@@ -7,7 +7,7 @@ ghost use Rattle.cli_files.specs.Publishing.{IsPublished};
 use crate::file_calls::FileCalls;
 use crate::replaceable::ReplaceRule;
 
-/// The path of a published output, which files could be replaced there, and what was called for it.
+/// The path of a published output, its rule of replacement, and the calls that were made for it.
 #[derive(Drop)]
 pub struct Published {
     pub path: String,

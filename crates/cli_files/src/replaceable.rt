@@ -1,4 +1,5 @@
-//! Which file at OUT's path is replaced, by what it begins with, and why one is not. What files hold is in no contract.
+//! Which file at OUT's path is replaced, by its first bytes, and why one is not. No contract covers the contents of
+//! files.
 
 ghost use Rattle.std.specs.Prelude.{◌≡◌, ◌≢◌, ℕ, IfErr, IfOk, IsOk, List, None, Ok, OnOk, Some, [], false, true};
 ghost use Rattle.cli_files.specs.FileCalls.{HasRead, first_bytes};
@@ -9,21 +10,21 @@ use archive_records::TextKind;
 use memory::NoMemory;
 use std::io::{self, Read};
 
-/// What an index begins with.
+/// The magic of an index.
 const INDEX_MAGIC: LeadingBytes = *b"MSYMIDX2";
 
-/// What an index of a release before 2.4 begins with.
+/// The magic of an index of a release before 2.4.
 const EARLIER_INDEX_MAGIC: LeadingBytes = *b"MSYMIDX1";
 
-/// Why OUT takes no bytes, or was not published.
+/// Why OUT accepts no bytes, or was not published.
 #[derive(Clone, Copy, Debug)]
 pub enum OutFault {
     /// It could not be created, or the file there may not be written, with the error of the system. `None`: OUT is the
     /// file of an input.
     NotCreated(Option<io::Error>),
-    /// What is there is not replaced.
+    /// The file there is not replaced.
     NotReplaced(Obstacle),
-    /// There was no memory for its names.
+    /// Memory ran out for the names of its paths.
     OutOfMemory,
 }
 
@@ -38,36 +39,36 @@ impl From<NoMemory> for OutFault {
     }
 }
 
-/// Why what is at OUT's path is not replaced.
+/// Why the file at OUT's path is not replaced.
 #[derive(Clone, Copy, Debug)]
 pub enum Obstacle {
-    /// It begins so, and the command replaces no file that does.
+    /// It has these first bytes, and the command replaces no such file.
     OtherKind(LeadingBytes),
-    /// It is an archive with so many records that the new one neither has nor covers.
+    /// It is an archive with this number of records that the new one neither has nor covers.
     Loses(u64),
-    /// It begins as an archive does, and cannot be read to its end.
+    /// It has the first bytes of an archive, and cannot be read to its end.
     Damaged,
-    /// It has other bytes than the new one, which takes the place of none but its own.
+    /// Its bytes differ from those of the new slice, which replaces only the same bytes.
     Differs,
-    /// It was not read or not renamed, with what the system said, if it said something.
+    /// It was not read or not renamed, with the error of the system, if any.
     Refused(Option<io::Error>),
 }
 
-/// Which files a command may replace; an empty one it always may.
+/// Which files a command may replace. It may always replace an empty one.
 #[derive(Clone, Copy, Debug, PartialEq, Eq)]
 pub enum ReplaceRule {
-    /// An archive, unless it has a record which the new one neither has nor covers.
+    /// An archive, unless it has a record that the new one neither has nor covers.
     ArchivesBelow,
     /// A summary.
     Summaries,
     /// An index, of this release or of an earlier one.
     Indexes,
-    /// Those that have the very bytes of the new one: what it writes is a slice.
+    /// A file with the same bytes as the new one, which is a slice.
     SameBytes,
 }
 
 impl ReplaceRule {
-    /// Whether a file that begins so is of the kind that the command writes; a slice may begin with any bytes.
+    /// Whether a file with these first bytes is of the kind that the command writes. A slice may have any first bytes.
     fn is_of_kind(self, bytes: &LeadingBytes) -> bool
         ensures kind { result ≡ true → IsOfKind self bytes.now }
         ensures other { result ≡ false → IsOfKind self bytes.now → ⊥ }
@@ -81,7 +82,7 @@ impl ReplaceRule {
     }
 }
 
-/// The first bytes of a file of this size, with zeros after them; `None` if it is empty.
+/// The first eight bytes of a file of this size, padded with zeros; `None` if it is empty.
 pub fn beginning_of<R: Read>(file: &mut R, size: u64) -> io::Result<Option<LeadingBytes>>
     ensures empty { size ≡ 0 → result ≡ Ok None }
     ensures some { size ≢ 0 → OnOk result (result ≢ Ok None) }
@@ -98,7 +99,7 @@ pub fn beginning_of<R: Read>(file: &mut R, size: u64) -> io::Result<Option<Leadi
     Ok(Some(bytes))
 }
 
-/// Tests whether a file that begins so may be replaced.
+/// Tests whether a file with these first bytes may be replaced.
 pub fn check_kind(replaces: ReplaceRule, beginning: &Option<LeadingBytes>) -> Result<(), OutFault>
     ensures gives_way { OnOk result (GivesWay replaces (first_bytes beginning.now)) }
     ensures of_kind { OnOk result ((bytes : List ℕ) → beginning.now ≡ Some bytes → IsOfKind replaces bytes) }

@@ -1,4 +1,4 @@
-//! Whether what is at OUT has no other bytes than a draft, as the system gives them.
+//! Whether the file at OUT has the same bytes as a draft, by reading both.
 
 ghost use Rattle.std.specs.Prelude.{◌≡◌, ◌≢◌, ◌∷◌, ◌++◌, ◌⊎◌, ℕ, List, IfErr, IfOk, OnErr, OnOk, [], length, true};
 ghost use Rattle.std.specs.Prelude.{false};
@@ -15,11 +15,10 @@ use crate::system_calls::{Opened, System, SystemCalls};
 use std::io::{self, ErrorKind, Read};
 use std::rt::Files;
 
-/// How many bytes of a file are compared at a time.
+/// The number of bytes that are compared at a time.
 const PIECE: usize = 8 * 1024;
 
-/// Tests whether a draft may take the place of what is at its target: nothing, an empty file, or one that has the very
-/// bytes of the draft.
+/// Tests whether a draft may replace the file at its target: nothing, an empty file, or a file with the same bytes.
 pub fn check_sameness<F: Files>(
     system: &System<'_, F>,
     draft: &str,
@@ -39,7 +38,7 @@ pub fn check_sameness<F: Files>(
     }
 }
 
-/// Whether nothing or an empty file is at a path, or one that has the bytes of a draft.
+/// Whether nothing, an empty file or a file with the bytes of a draft is at a path.
 fn may_take_place<F: Files>(
     system: &System<'_, F>,
     draft: &str,
@@ -71,7 +70,7 @@ fn may_take_place<F: Files>(
     have_same(&mut first, &mut second, there.size, calls)
 }
 
-/// Whether the next pieces of two files, which are as long as these buffers, are the same.
+/// Whether the next pieces of two files, as long as these buffers, are the same.
 fn has_same_piece<R: Read>(
     first: &mut Opened<'_, R>,
     second: &mut Opened<'_, R>,
@@ -95,7 +94,7 @@ fn has_same_piece<R: Read>(
     Ok(&*of_first == &*of_second)
 }
 
-/// Whether the first bytes of two files, so many, are the same.
+/// Whether the first `count` bytes of two files are the same.
 fn have_same<R: Read>(
     first: &mut Opened<'_, R>,
     second: &mut Opened<'_, R>,

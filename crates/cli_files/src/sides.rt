@@ -1,4 +1,4 @@
-//! An archive of two that are compared, which is read from its beginning.
+//! One of two archives that are compared, read from its start.
 
 ghost use Rattle.std.specs.Prelude.{◌≡◌, ◌==◌, ◌≤◌, IfErr, IfOk, is_some, length, not};
 ghost use Rattle.std.specs.IoError.{error_kind};
@@ -15,7 +15,7 @@ pub struct ArchiveSide<'p, R> {
     path: &'p str,
 }
 
-/// The archive in this file, from where it is read next.
+/// The archive in this file, from the next byte on.
 pub fn side_of<'p, R: Read + Drop>(
     alloc: Global,
     opened: Opened<'p, R>,

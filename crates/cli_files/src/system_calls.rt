@@ -1,5 +1,5 @@
-//! The calls of the system for OUT, one method each, which notes what it called and what came. [`bodies`] has what each
-//! does; that it calls what it notes is seen by reading that file.
+//! The calls to the system for OUT, one method for each, which notes the call and its reply. [`bodies`] has their
+//! bodies; a reader of that file sees that each makes the call that it notes.
 
 ghost use Rattle.std.specs.Prelude.{◌≡◌, ◌≤◌, ◌∷◌, ◌++◌, [], IfOk, OnOk, length, string_bytes};
 ghost use Rattle.std.specs.Io.KnownBytes.{Consumes, WriteAppends};
@@ -29,18 +29,18 @@ pub struct Opened<'p, T> {
     path: &'p str,
 }
 
-/// A file of this run's own, which was created at this path.
+/// A file of this run, which was created at this path.
 #[derive(Drop)]
 pub struct Own<T> {
     file: T,
     path: String,
 }
 
-/// What is called of the files of the system.
+/// The calls to the files of the system.
 pub trait SystemCalls {
     type File: Drop;
 
-    /// What a path leads to.
+    /// The metadata of the file that a path leads to.
     fn metadata(&self, path: &str, calls: &mut FileCalls) -> io::Result<Found>
         ensures { calls.new.entries ≡ calls.old.entries ++ found path.now result };
 
@@ -48,11 +48,11 @@ pub trait SystemCalls {
     fn is_link(&self, path: &str, calls: &mut FileCalls) -> bool
         ensures { calls.new.entries ≡ calls.old.entries ++ linked path.now result };
 
-    /// The path that a path leads to, without a symbolic link in it.
+    /// The path that a path leads to, without symbolic links.
     fn canonicalize(&self, alloc: Global, path: &str, calls: &mut FileCalls) -> io::Result<String>
         ensures { calls.new.entries ≡ calls.old.entries ++ led path.now result };
 
-    /// Opens a file to read it; it may be asked of the system that it may be written to.
+    /// Opens a file for reading, and for writing too if `writes`.
     fn open<'p>(
         &self,
         path: &'p str,
@@ -62,12 +62,12 @@ pub trait SystemCalls {
         ensures calls { calls.new.entries ≡ calls.old.entries ++ refused path.now result }
         ensures path { IfOk result (λ file. file.path.now ≡ path.now) };
 
-    /// Opens and empties what is at a path.
+    /// Opens and truncates the file at a path.
     fn create(&self, path: &str, calls: &mut FileCalls) -> io::Result<Self::File>
         ensures { calls.new.entries ≡ calls.old.entries ++ answered (Opens path.now) path.now result };
 
-    /// Creates a file that was not there, with this mode, for the group and the owner of what is to be replaced. Who may
-    /// not give the file away keeps it, but may still be one of its group; and some systems have no owners.
+    /// Creates a new file with this mode, and with the group and the owner of the file to be replaced. If this user may
+    /// not change the owner, the file stays the user's, but its group may still be set; some systems have no owners.
     fn create_new(
         &self,
         path: String,
@@ -78,20 +78,20 @@ pub trait SystemCalls {
         ensures calls { calls.new.entries ≡ calls.old.entries ++ created (string_bytes path) mode result }
         ensures path { IfOk result (λ own. own.path ≡ path) };
 
-    /// Has the bytes of a file of this run's own on the disk.
+    /// Syncs a file of this run to the disk.
     fn sync(&self, own: &Own<Self::File>, calls: &mut FileCalls) -> io::Result<()>
         ensures { calls.new.entries ≡ calls.old.entries ++ answered Syncs (string_bytes own.now.path) result };
 
-    /// Gives one another path.
+    /// Renames a file of this run to another path.
     fn rename(&self, own: &Own<Self::File>, target: &str, calls: &mut FileCalls) -> io::Result<()>
         ensures { calls.new.entries ≡ calls.old.entries
             ++ answered (Renames (string_bytes own.now.path) target.now) target.now result };
 
-    /// Removes one.
+    /// Removes a file of this run.
     fn remove<T>(&self, own: &Own<T>, calls: &mut FileCalls)
         ensures { calls.new.entries ≡ calls.old.entries ++ Removes (string_bytes own.now.path) ∷ [] };
 
-    /// Syncs a folder, where the system does that.
+    /// Syncs a folder, on systems that support it.
     fn sync_folder(&self, folder: &str, calls: &mut FileCalls)
         ensures { calls.new.entries ≡ calls.old.entries ++ SyncsFolder folder.now ∷ [] };
 }
@@ -105,7 +105,7 @@ impl<'a, F: Files> System<'a, F> {
 }
 
 impl<T: Write> Own<T> {
-    /// Writes some first bytes.
+    /// Writes some first bytes, and returns their number.
     pub fn write(&mut self, bytes: &[u8]) -> io::Result<usize>
         ensures bound { IfOk result (λ n. n ≤ length bytes.now) }
         ensures bytes { WriteAppends (T.contents self.old.file) (T.contents self.new.file) result bytes.now }
@@ -146,7 +146,7 @@ impl<'p, T> Opened<'p, T> {
 }
 
 impl<'p, T: Read> Opened<'p, T> {
-    /// Its first bytes, if its size is this one.
+    /// Its first bytes, for a file of this size.
     pub fn beginning(
         &mut self,
         size: u64,
@@ -162,7 +162,7 @@ impl<'p, T: Read> Opened<'p, T> {
         answer
     }
 
-    /// Its next bytes.
+    /// Reads its next bytes, which fill the buffer.
     pub fn read_exact(&mut self, buf: &mut [u8], calls: &mut FileCalls) -> io::Result<()>
         ensures calls { calls.new.entries ≡ calls.old.entries
             ++ answered (Gives self.old.path.now buf.new) self.old.path.now result }

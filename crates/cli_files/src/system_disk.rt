@@ -1,4 +1,4 @@
-//! Files of the system that are read. What they hold is in no contract, and which were opened is.
+//! Files of the system for reading. Contracts cover which were opened, not their contents.
 
 ghost use Rattle.std.specs.Prelude.{◌≡◌, ◌≢◌, ◌∷◌, ◌++◌, [], Err, IfErr, IsErr, Ok, OnOk};
 ghost use Rattle.std.specs.IoError.{error_kind};
@@ -14,20 +14,20 @@ use std::fs;
 use std::io::{self, BufReader, ErrorKind, Read};
 use std::rt::Files;
 
-/// The files of the system, one of which is read.
+/// The files of the system, of which one is read.
 #[derive(Drop)]
 pub struct SystemDisk<'a, F: Files> {
     alloc: Global,
     files: &'a F,
     opened: CallLog,
-    /// The paths at whose opening the system reported that memory ran out.
+    /// The paths at which the system reported that memory ran out.
     wanting: CallLog,
 }
 
 impl<'a, F: Files> SystemDisk<'a, F> {
     ghost use Rattle.std.specs.Prelude.{[]};
 
-    /// These files, of which none was opened.
+    /// The files of the system; none was opened.
     pub(crate) fn new(alloc: Global, files: &'a F) -> Self
         ensures opened { result.opened.entries ≡ [] }
         ensures wanting { result.wanting.entries ≡ [] }
@@ -41,7 +41,7 @@ impl<'a, F: Files> SystemDisk<'a, F> {
     }
 }
 
-/// Notes that memory ran out, if that is the reason that the system gave.
+/// Notes that memory ran out, if that is the reason of the system.
 fn note_wanting(reason: &io::Error, path: &str, wanting: &mut CallLog)
     ensures memory { error_kind reason.now ≡ ErrorKind.OutOfMemory
         → wanting.new.entries ≡ wanting.old.entries ++ path.now ∷ [] }
@@ -91,7 +91,7 @@ fn reader_of<T: Read + Drop>(
     }
 }
 
-/// What is handed out where a file was not opened for this reason.
+/// The result for a file that was not opened for this reason: the outer error is lack of memory.
 fn unopened<T>(reason: io::Error) -> Result<Result<T, CannotOpen>, NoMemory>
     ensures memory { error_kind reason ≡ ErrorKind.OutOfMemory → IsErr result }
     ensures other { error_kind reason ≢ ErrorKind.OutOfMemory → result ≡ Ok (Err (record { reason = reason })) }

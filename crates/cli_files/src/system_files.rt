@@ -26,14 +26,14 @@ pub struct SystemFiles<'a, F: Files> {
     alloc: Global,
     files: &'a F,
     pub out: Output<OutFile<'a, F>, OutTarget<'a, F>>,
-    /// The paths that it made inputs for.
+    /// The paths for which it made inputs.
     asked: CallLog,
-    /// What the system said of OUT and of each input, before anything was opened.
+    /// The metadata of OUT and of each input, before anything was opened.
     compared: FileCalls,
 }
 
 impl<'a, F: Files> SystemFiles<'a, F> {
-    /// Files of which none was asked for or created. Drafts are named for this process.
+    /// No input was made and no file created. The names of drafts contain the number of this process.
     pub fn new(alloc: Global, files: &'a F, process: u32) -> Self
         ensures asked { result.asked.entries ≡ [] }
         ensures fresh { AreFresh result }
@@ -50,7 +50,7 @@ impl<'a, F: Files> SystemFiles<'a, F> {
         }
     }
 
-    /// The memory that its readers take.
+    /// The memory that its readers use.
     pub fn alloc(&self) -> Global {
         self.alloc
     }

@@ -1,4 +1,4 @@
-//! How OUT is written: what its path leads to, as the system says it. A call that asks is noted with its answer.
+//! How OUT is written, by the file that its path leads to. Each call that reads is noted with its reply.
 
 ghost use Rattle.std.specs.Prelude.{◌≡◌, ◌∷◌, ◌++◌, [], IfErr, IfOk, List, OnErr, Some, string_bytes, true};
 ghost use Rattle.std.specs.IoError.{error_kind};
@@ -21,16 +21,16 @@ use std::rt::Files;
 /// How OUT is written.
 #[derive(Drop)]
 pub enum WriteMode {
-    /// To what is there, which is no regular file, or a descriptor.
+    /// To the file there, which is no regular file, or whose path is a descriptor.
     Through,
-    /// To a draft beside this path, where no symbolic link is; and what is there, if a file is.
+    /// To a draft next to this path, which has no symbolic links; with the metadata of the file there, if one exists.
     Beside(String, Option<Found>),
 }
 
-/// How OUT is written that has this path, where a command replaces these files.
+/// How OUT with this path is written, if the command replaces these files.
 ///
-/// What is no regular file is written to, and so is a descriptor, which others may hold. A symbolic link is followed;
-/// one that leads to nothing is refused.
+/// A file that is not regular is written through, and so is a descriptor, which other processes may hold. A symbolic
+/// link is followed; one that leads to nothing is refused.
 pub fn write_mode_of<F: Files>(
     alloc: Global,
     system: &System<'_, F>,
@@ -55,7 +55,8 @@ pub fn write_mode_of<F: Files>(
     }
 }
 
-/// The way to a path at which the system finds nothing, unless it is a link, or no file can have that path.
+/// How OUT is written at a path at which the system finds nothing. Refused if the path is a link, or if it is empty or
+/// ends with a slash.
 fn mode_for_new<F: Files>(
     alloc: Global,
     system: &System<'_, F>,
@@ -81,7 +82,8 @@ fn mode_for_new<F: Files>(
     Ok(WriteMode::Beside(String::from_str(alloc, path)?, None))
 }
 
-/// The way to a regular file, which has to be one that may be written and that is replaced, by its first bytes.
+/// How OUT is written over a regular file. Refused if it may not be written, or if its first bytes do not allow it to
+/// be replaced.
 fn mode_over_file<F: Files>(
     alloc: Global,
     system: &System<'_, F>,

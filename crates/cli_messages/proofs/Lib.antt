@@ -1,4 +1,4 @@
-pub mod Helping
+pub mod SecondLines
 pub mod Named
 pub mod Saying
 pub mod Reasons

@@ -6,24 +6,24 @@ use Rattle.cli_arguments.specs.declared.line_faults.LineFault.TheVariants as fau
 use Rattle.command_common.specs.Outputs.{Takes, Writer}
 use Rattle.cli_messages.specs.StandardError.{IsPushed, SaysRefused, SaysWanting, reason_in}
 
--- Nothing is told, and this reason is said.
+-- Nothing is reported, and this reason is printed.
 pub record Refuses (told standard_error : Writer) (reason : Text) (status : ℕ) : Type 0 where
   pub nothing_told : Takes told []
   pub says : SaysRefused standard_error reason
   pub status_is : status ≡ 3
 
--- Memory runs out, and that is said.
+-- Memory ran out, and that is printed.
 pub record WantsMemory (told standard_error : Writer) (status : ℕ) : Type 0 where
   pub nothing_told : Takes told []
   pub whole : Bool
   pub says : SaysWanting standard_error whole
   pub status_is : status ≡ 4
 
--- It ends so where the words could not be read, for another reason than a lack of memory.
+-- The end if the words could not be read for a reason other than lack of memory.
 abbrev pub IsUnreadable : Writer → Writer → ℕ → Type 0
 IsUnreadable told standard_error status = Refuses told standard_error (codes "invalid word: expected UTF-8 text") status
 
--- what is told and said of a line that gives no plan, and the exit status
+-- the report, the message and the exit status for a line without a plan
 abbrev pub EndsLine : LineFault → Writer → Writer → ℕ → Type 0
 EndsLine (fault.Help text) told standard_error status =
     (whole : Bool) × IsPushed told (string_bytes text) whole × Takes standard_error [] × (status ≡ 0)

@@ -1,4 +1,4 @@
--- Which file a failure is of, and which of its lines.
+-- The file of a failure, and the line in it.
 use Rattle.std.specs.Prelude.{ℕ, List, [], ◌++◌, ◌==◌, codes, if◌then◌else◌, Option, Some, None, option_map}
 use Rattle.std.specs.Prelude.{Result, Ok, Err, ⊤}
 use Rattle.std.specs.Fmt.{decimal}
@@ -31,7 +31,7 @@ use Rattle.text_inputs.specs.declared.script_flaws.ScriptFlaw.TheVariants as scr
 use Rattle.text_values.specs.declared.flaws.LineFlaw.{LineFlaw}
 use Rattle.text_values.specs.declared.flaws.LineFlaw.TheVariants as any_line
 
--- the path of the file that a failure is of
+-- the path of the file of a failure
 abbrev pub file_of : Line → Failure → Option Text
 file_of line (Command (Input name why)) = path_at line name
 file_of line (Command (Output n)) = out_of line
@@ -40,7 +40,7 @@ file_of line (Command OutOfMemory) = None
 file_of line (CannotCreate _) = out_of line
 file_of line CannotReplace = out_of line
 
--- what a failure is of, as it is said
+-- the text for the file of a failure
 abbrev pub subject_of : Failure → List ℕ
 subject_of (Command (Input name why)) = name_text name
 subject_of (Command (Output n)) = codes "output"
@@ -53,13 +53,13 @@ abbrev pub subject_text : Subject → List ℕ
 subject_text (subject.Input name) = name_text name
 subject_text subject.Output = codes "output"
 
--- the hint for an index that is refused for this: a stale one is written anew, but where the archive has the length
--- that the index has, what changed in it is found first
+-- the hint for an index that is refused as stale: make it again; or, if the archive has the length stated in the index,
+-- first find out what changed in the archive
 abbrev pub stale_hint : Option ℕ → Hint
 stale_hint None = hint.StaleIndex
 stale_hint (Some entry) = hint.StaleEntry
 
--- the line for which an input is refused, with what is wrong with it, where more is known of that
+-- the line for which an input is refused, with its flaw, if more is known of it
 abbrev pub faulty_line : Why → Option FaultyLine
 faulty_line CannotOpen = None
 faulty_line Device = None
@@ -77,7 +77,7 @@ faulty_line (NoLines _) = None
 faulty_line NoArchive = None
 faulty_line NoIndex = None
 
--- the same of a failure
+-- the same for a failure
 abbrev pub faulty_line_of : Failure → Option FaultyLine
 faulty_line_of (Command (Input name why)) = faulty_line why
 faulty_line_of (Command (Output n)) = None
@@ -86,7 +86,7 @@ faulty_line_of (Command OutOfMemory) = None
 faulty_line_of (CannotCreate _) = None
 faulty_line_of CannotReplace = None
 
--- It ended without a fault of an input or of OUT.
+-- The result is not a fault of an input or of OUT.
 abbrev pub IsOfNoFile : Result Status CommandFault → Type 0
 IsOfNoFile (Ok _) = ⊤
 IsOfNoFile (Err (Input name why)) = ⊥
@@ -94,7 +94,7 @@ IsOfNoFile (Err (Output n)) = ⊥
 IsOfNoFile (Err (Report n)) = ⊤
 IsOfNoFile (Err OutOfMemory) = ⊤
 
--- It ended with a fault of OUT.
+-- The result is a fault of OUT.
 abbrev pub IsOfOut : Result Status CommandFault → Type 0
 IsOfOut (Ok _) = ⊥
 IsOfOut (Err (Input name why)) = ⊥
@@ -102,13 +102,13 @@ IsOfOut (Err (Output n)) = ⊤
 IsOfOut (Err (Report n)) = ⊥
 IsOfOut (Err OutOfMemory) = ⊥
 
--- what is said of a number in a script that has this flaw, where this is the greatest that may stand there
+-- the text for a number in a script that has this flaw; `most` is the greatest valid number
 unfoldable pub number_flaw_text : NumberFlaw → ℕ → List ℕ
 number_flaw_text NotDecimal most = codes "expected a decimal number, at most " ++ decimal most
 number_flaw_text LeadingZeros most = codes "expected no leading zeros"
 number_flaw_text TooLarge most = codes "too large, expected at most " ++ decimal most
 
--- of a line, whatever its fields are
+-- the text for the flaw of a line, for any fields
 abbrev pub line_flaw_text : LineFlaw → List ℕ
 line_flaw_text any_line.ByteOrderMark = codes "begins with a byte-order mark"
 line_flaw_text any_line.Tab = codes "has a tab"
@@ -116,11 +116,11 @@ line_flaw_text any_line.CarriageReturn = codes "has a carriage return"
 line_flaw_text any_line.NotText = codes "is not UTF-8"
 line_flaw_text any_line.Spaces = codes "has two spaces together, or one at an end"
 
--- of a field that has not its form
+-- the text for a field with a wrong form
 unfoldable pub invalid_text : List ℕ → List ℕ → List ℕ
 invalid_text field expected = codes "has an invalid " ++ field ++ codes ": " ++ expected
 
--- of a line of FRAMES
+-- the text for the flaw of a line of FRAMES
 unfoldable pub frame_flaw_text : FrameFlaw → List ℕ
 frame_flaw_text (frame.Line found) = line_flaw_text found
 frame_flaw_text frame.FieldCount = codes "has not the four fields UUID ARCH LOAD ADDRESS"
@@ -129,7 +129,7 @@ frame_flaw_text frame.Arch = invalid_text (codes "ARCH") (codes "expected " ++ f
 frame_flaw_text frame.Load = invalid_text (codes "LOAD") (codes "expected - or " ++ form_words form.Number)
 frame_flaw_text frame.Address = invalid_text (codes "ADDRESS") (codes "expected " ++ form_words form.Number)
 
--- of a line of SCRIPT
+-- the text for the flaw of a line of SCRIPT
 unfoldable pub script_flaw_text : ScriptFlaw → List ℕ
 script_flaw_text (script.Line found) = line_flaw_text found
 script_flaw_text script.Sites = codes "is not `sites N`, N from 1 to 64"
@@ -147,11 +147,11 @@ abbrev pub flaw_text : Flaw → List ℕ
 flaw_text (flaw.Frame found) = frame_flaw_text found
 flaw_text (flaw.Script found) = script_flaw_text found
 
--- what is said of a faulty line
+-- the text for a faulty line
 unfoldable pub faulty_line_text : FaultyLine → List ℕ
 faulty_line_text faulty = codes "whose line " ++ decimal faulty.line ++ codes " " ++ flaw_text faulty.flaw
 
--- what is said of a file at OUT that looks so, and is of another kind than what is written
+-- the text for a file of this kind at OUT, if the command writes another kind
 abbrev pub other_kind_text : Option FileKind → List ℕ
 other_kind_text (Some kind.Archive) = codes "there, and an archive"
 other_kind_text (Some kind.Operations) = codes "there, and an operations file"
@@ -160,11 +160,11 @@ other_kind_text (Some kind.Index) = codes "there, and an index"
 other_kind_text (Some kind.EarlierIndex) = codes "there, and an index"
 other_kind_text _ = codes "there, and neither empty nor one of symarch's files"
 
--- the word for so many records
+-- the word after this number of records
 unfoldable pub records_word : ℕ → List ℕ
 records_word count = if count == 1 then codes "record" else codes "records"
 
--- what is known of OUT or of an input, in words
+-- the text for the known facts about OUT or of an input
 unfoldable pub hint_text : Hint → List ℕ
 hint_text hint.SameFile = codes "the file of an input"
 hint_text (hint.OtherKind found) = other_kind_text found

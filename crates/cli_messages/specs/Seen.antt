@@ -1,4 +1,4 @@
--- What is seen of the file that a command failed at.
+-- What is known of the file at which a command failed.
 use Rattle.std.specs.Prelude.{Option, Some, None}
 use Rattle.std.specs.declared.io.Error.{Error}
 use Rattle.byte_device.specs.declared.Placed.{Ghosts as Places}
@@ -16,15 +16,15 @@ use Rattle.cli_messages.specs.declared.hints.Seen.{Seen}
 abbrev pub nothing : Seen
 nothing = record { reason = None; kind = None; obstacle = None }
 
--- of a file that is read from its start: the error that the system gave last, and what its first bytes are those of
+-- for a file that is read from its start: the last error of the system, and the kind of its first bytes
 abbrev pub seen_open : {R : Type 0} → OpenedFile R → Seen
 seen_open file = record { reason = reason_of file.reading; kind = kind_of file.leading_bytes; obstacle = None }
 
--- of one that is read from any place
+-- the same for a file that is read at any offset
 abbrev pub seen_placed : {R : Type 0} → PlacedFile R → Seen
 seen_placed file = record { reason = file.placing.reason; kind = kind_of file.leading_bytes; obstacle = None }
 
--- of an input that is so far: of its file, or the error by which the system refused to open it
+-- the same for an input in this state; if it was not opened, the error of the system
 abbrev pub seen_in : {R P : Type 0} → InputState (OpenedFile R) (PlacedFile P) → Seen
 seen_in state.Waiting = nothing
 seen_in (state.Open file) = seen_open file
@@ -32,12 +32,12 @@ seen_in (state.Placed file) = seen_placed file
 seen_in (state.Unopened (why.Refused refused)) = record { reason = Some refused.reason; kind = None; obstacle = None }
 seen_in (state.Unopened why.OutOfMemory) = nothing
 
--- of an input, if there is one
+-- the same for an input, if there is one
 abbrev pub seen_of : {D R P : Type 0} {disk : Disks D (OpenedFile R) (PlacedFile P)} {input : Sources (OpenedFile R)}
     {places : Places (PlacedFile P)} → Option (LazyInput D (OpenedFile R) (PlacedFile P) disk input places) → Seen
 seen_of None = nothing
 seen_of (Some file) = seen_in file.state
 
--- of OUT that is so far, at which this was the last error
+-- the same for OUT at this stage, with this last error
 abbrev pub seen_at_out : Stage → Option Error → Seen
 seen_at_out stage last = record { reason = out_reason stage last; kind = None; obstacle = obstacle_of stage }

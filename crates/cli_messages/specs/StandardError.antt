@@ -10,35 +10,35 @@ use Rattle.command_common.specs.{FaultTexts.failure_text, Outputs.FailsBehind, O
 use Rattle.command_common.specs.{Notes.note_text, declared.notes.Note.Note}
 use Rattle.cli_messages.specs.Hints.{file_of, subject_of}
 
--- the line of a lack of memory
+-- the line for lack of memory
 abbrev pub wanting_text : List ℕ
 wanting_text = codes "symarch: out of memory"
 
--- The writer took these bytes; or it failed inside them.
+-- The writer accepted these bytes; or it failed before their end.
 abbrev pub IsPushed : Writer → List ℕ → Bool → Type 0
 IsPushed standard_error bytes true = Takes standard_error bytes
 IsPushed standard_error bytes false = (n : ℕ) × FailsBehind standard_error bytes n
 
--- the line of a lack of memory was said
+-- the line for lack of memory was printed
 abbrev pub SaysWanting : Writer → Bool → Type 0
 SaysWanting standard_error whole = IsPushed standard_error (line wanting_text) whole
 
--- The line was said to its end; or the writer failed inside it, or there was no memory for it, and a lack of memory was
--- said in its place.
+-- The line was printed to its end; or the writer failed before its end, or there was no memory for it and the line for
+-- lack of memory was printed instead.
 abbrev pub SaysLine : Writer → List ℕ → Bool → Type 0
 SaysLine standard_error text true = Takes standard_error (line text)
 SaysLine standard_error text false =
     ((n : ℕ) × FailsBehind standard_error (line text) n)
     ⊎ ((whole : Bool) × SaysWanting standard_error whole)
 
--- ---- what helps a person
+-- ---- the second line
 
 -- a text has a line feed
 abbrev pub has_line_feed : List ℕ → Bool
 has_line_feed text = list_any (λ byte. byte == 10) text
 
--- The line that helps with the failure of a line: two spaces, what the failure is of, and the path of that very file,
--- as it is shown, and after these what is free. It is one line.
+-- The second line for the failure of a command line: two spaces, the text for the file of the failure, its path as it
+-- is printed, and then any text. It is one line.
 pub record IsHelp (asked : Line) (failure : Failure) (help : List ℕ) : Type 0 where
   pub path : Text
   pub path_is : Some path ≡ file_of asked failure
@@ -47,15 +47,14 @@ pub record IsHelp (asked : Line) (failure : Failure) (help : List ℕ) : Type 0 
   pub free_feedless : has_line_feed free ≡ false
   pub help_is : help ≡ line (codes "  " ++ subject_of failure ++ codes " is " ++ shown path ++ free)
 
--- What is said after the line of a failure: nothing, or the line that helps with it, or its beginning where the writer
--- failed.
+-- After the line of a failure: nothing, or its second line, or the beginning of that if the writer failed.
 abbrev pub SaysHelp : Writer → Line → Failure → Type 0
 SaysHelp standard_error asked failure =
     Takes standard_error []
     ⊎ ((help : List ℕ) × IsHelp asked failure help × (whole : Bool) × IsPushed standard_error help whole)
 
--- The writer took the line of a failure, and what helps a person after it; or it failed inside the line; or there was
--- no memory for it, and a lack of memory was said in its place, and no more.
+-- The writer accepted the line of a failure, and then its second line; or it failed before the end of the first; or
+-- there was no memory for that line, and only the line for lack of memory was printed.
 abbrev pub SaysFailure : Writer → Line → Failure → Type 0
 SaysFailure standard_error asked failure =
     ((between : Option (List ℕ)) × (failures : ℕ)
@@ -63,7 +62,7 @@ SaysFailure standard_error asked failure =
     × SaysHelp (record standard_error { old = between; failures_old = failures }) asked failure)
     ⊎ SaysLine standard_error (failure_text failure) false
 
--- Why the report failed is said in one line.
+-- One line states why the report failed.
 abbrev pub SaysReport : Writer → Type 0
 SaysReport standard_error =
     (free : List ℕ) × (has_line_feed free ≡ false)
@@ -71,28 +70,28 @@ SaysReport standard_error =
 
 -- ---- notes
 
--- a line a note
+-- one line for each note
 abbrev pub note_lines : List Note → List ℕ
 note_lines notes = flat_map (λ note. line (note_text note)) notes
 
--- what is said where there is no memory for the lines of the notes
+-- the line that is printed if there is no memory for the lines of the notes
 abbrev pub unnoted_text : List ℕ
 unnoted_text = codes "note: out of memory"
 
--- The writer took the lines of the notes, all of them, or failed inside them; or there was no memory for these, and
--- that was said in their place. Without a note it took nothing.
+-- The writer accepted the lines of all notes, or failed before their end; or there was no memory for them, and the line
+-- for that was printed instead. Without a note it accepted nothing.
 abbrev pub SaysNotes : Writer → List Note → Type 0
 SaysNotes standard_error [] = Takes standard_error []
 SaysNotes standard_error (note ∷ notes) =
     ((whole : Bool) × IsPushed standard_error (note_lines (note ∷ notes)) whole)
     ⊎ ((whole : Bool) × IsPushed standard_error (line unnoted_text) whole)
 
--- what a command of this line that ended so says: its notes, or why it failed
+-- the messages after a command with this line and result: its notes, or why it failed
 abbrev pub SaysEnd : Writer → Line → Result Status Failure → List Note → Type 0
 SaysEnd standard_error asked (Ok _) notes = SaysNotes standard_error notes
 SaysEnd standard_error asked (Err failure) notes = SaysFailure standard_error asked failure
 
--- a text without the word at its front
+-- a text without the word `error: ` at its start
 abbrev pub after_error : Text → Text
 after_error text = if starts_with nat_eq text (codes "error: ") then drop 7 text else text
 
@@ -100,6 +99,6 @@ after_error text = if starts_with nat_eq text (codes "error: ") then drop 7 text
 abbrev pub reason_in : Text → Text
 reason_in text = after_error (without_line_feed text)
 
--- This reason is said for which words are refused.
+-- The reason for which words are refused is printed.
 abbrev pub SaysRefused : Writer → Text → Type 0
 SaysRefused standard_error reason = (whole : Bool) × SaysLine standard_error (codes "symarch: " ++ reason) whole

@@ -1,4 +1,4 @@
-//! What the program says at its end, and its exit status.
+//! The messages of the program at its end, and its exit status.
 
 ghost use Rattle.std.specs.Prelude.{◌≡◌, ◌≢◌, Err, MatchResult, Ok};
 ghost use Rattle.std.specs.IoError.{error_kind};
@@ -22,13 +22,13 @@ use std::io::{self, ErrorKind};
 /// The exit status of help and of the version.
 const DONE: u8 = 0;
 
-/// The exit status of a command line that is refused.
+/// The exit status of a refused command line.
 const BAD_LINE: u8 = 3;
 
 /// The exit status of a command whose memory ran out.
 const OUT_OF_MEMORY: u8 = 4;
 
-/// Ends as a line did, of which the notes are said, or why it failed.
+/// Ends the program: prints the notes of a command, or why it failed.
 pub fn end<E: Sink>(
     alloc: Global,
     line: &Line,
@@ -55,7 +55,7 @@ pub fn end<E: Sink>(
     }
 }
 
-/// Says why a line failed, and after it what helps a person.
+/// Prints why a line failed, and then the second line.
 fn say_failure<E: Sink>(alloc: Global, line: &Line, failure: Failure, seen: Seen, errors: &mut E)
     ensures { SaysFailure (writer E.held E.failures errors.old errors.new) (line_view line.now) failure }
 {
@@ -67,7 +67,7 @@ fn say_failure<E: Sink>(alloc: Global, line: &Line, failure: Failure, seen: Seen
     }
 }
 
-/// Ends where the words ask for nothing.
+/// Ends the program for words that have no plan.
 pub fn end_with_line_fault<P: Sink, E: Sink>(
     alloc: Global,
     fault: LineFault,
@@ -109,7 +109,7 @@ fn after_error(text: &str) -> &str
     }
 }
 
-/// Refuses words that could not be read: there was no memory for them, or one is no text.
+/// Refuses words that could not be read: there was no memory for them, or one is not UTF-8 text.
 pub fn refuse_words<P: Sink, E: Sink>(
     alloc: Global,
     error: &io::Error,

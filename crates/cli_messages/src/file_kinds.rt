@@ -1,4 +1,4 @@
-//! What a file that is refused looks like, by its first bytes, and which command takes it.
+//! The kind of a refused file, by its first bytes, and the command that reads such files.
 
 ghost use Rattle.std.specs.Prelude.{◌≡◌, find, map, nat_eq, option_map};
 ghost use Rattle.std.specs.List.{starts_with};
@@ -8,7 +8,7 @@ use archive_records::Format;
 use cli_files::LeadingBytes;
 use std::fmt;
 
-/// What a file begins as.
+/// The kind of a file, by its first bytes.
 #[derive(Clone, Copy, Debug, PartialEq, Eq)]
 pub enum FileKind {
     Archive,
@@ -27,7 +27,8 @@ pub enum FileKind {
     Marked,
 }
 
-/// What other files begin with: indexes, mach-o/loader.h and mach-o/fat.h, in either byte order, and common formats.
+/// The first bytes of other files: indexes, files of mach-o/loader.h and mach-o/fat.h, in either byte order, and common
+/// formats.
 const BEGINNINGS: [(&[u8], FileKind); 12] = [
     (b"MSYMIDX2", FileKind::Index),
     (b"MSYMIDX1", FileKind::EarlierIndex),
@@ -43,12 +44,12 @@ const BEGINNINGS: [(&[u8], FileKind); 12] = [
     (b"\xef\xbb\xbf", FileKind::Marked),
 ];
 
-/// The most slices of a universal file. In a Java class file, which begins alike, its version stands at their number,
-/// and the first version is 45.
+/// The greatest number of slices in a universal file. A Java class file has the same magic, and its version, at least
+/// 45, is where a universal file has that number.
 const MOST_SLICES: u32 = 42;
 
 impl FileKind {
-    /// What a file with these first bytes looks like, if that is known.
+    /// The kind of a file with these first bytes, if it is known.
     pub fn of(leading_bytes: &LeadingBytes) -> Option<FileKind>
         ensures { result ≡ kind_of leading_bytes.now }
     {
@@ -62,7 +63,7 @@ impl FileKind {
     }
 }
 
-/// Which of symarch's own files begins so.
+/// The kind, if it is one of symarch's own files.
 fn own_kind(leading_bytes: &LeadingBytes) -> Option<FileKind>
     ensures { result ≡ own_kind leading_bytes.now }
 {
@@ -79,21 +80,21 @@ fn own_kind(leading_bytes: &LeadingBytes) -> Option<FileKind>
     }
 }
 
-/// Which other file begins so.
+/// The kind, if it is another file.
 fn other_kind(leading_bytes: &LeadingBytes) -> Option<FileKind>
     ensures { result ≡ other_kind leading_bytes.now }
 {
     kind_among(&BEGINNINGS, leading_bytes)
 }
 
-/// The kind of the first of these with which the bytes begin.
+/// The kind of the first row whose bytes these bytes begin with.
 fn kind_among(beginnings: &[(&[u8], FileKind)], bytes: &[u8]) -> Option<FileKind>
     ensures { result ≡ kind_among bytes.now (map (λ row. (row.0.now, row.1)) beginnings.now) }
 {
     first_kind(beginnings, bytes)
 }
 
-/// It is the same of references.
+/// The same, with references in the clause.
 fn first_kind(beginnings: &[(&[u8], FileKind)], bytes: &[u8]) -> Option<FileKind>
     ensures { result
         ≡ option_map (λ row. row.1) (find (λ row. starts_with nat_eq bytes.now row.0.now) beginnings.now) }
@@ -104,7 +105,7 @@ fn first_kind(beginnings: &[(&[u8], FileKind)], bytes: &[u8]) -> Option<FileKind
         .map(|(_, kind)| *kind)
 }
 
-/// Whether what begins as a universal file is a Java class file.
+/// Whether a file with the first bytes of a universal file is a Java class file.
 fn is_class(leading_bytes: &LeadingBytes) -> bool
     ensures { result ≡ is_class leading_bytes.now }
 {

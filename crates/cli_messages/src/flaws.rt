@@ -1,4 +1,4 @@
-//! The faulty line of FRAMES or of SCRIPT, as a person is told of it.
+//! The faulty line of FRAMES or of SCRIPT, in the words of messages.
 
 ghost use Rattle.std.specs.Prelude.{◌≡◌};
 ghost use Rattle.cli_messages.specs.Hints.{faulty_line, line_flaw_text};
@@ -9,14 +9,14 @@ use std::fmt;
 use text_inputs::{FrameFlaw, NumberFlaw, ScriptFlaw};
 use text_values::LineFlaw;
 
-/// What is wrong with a line.
+/// The flaw of a line.
 #[derive(Clone, Copy)]
 pub enum Flaw {
     Frame(FrameFlaw),
     Script(ScriptFlaw),
 }
 
-/// A line, counted from 1, with what is wrong with it.
+/// A line, counted from 1, with its flaw.
 #[derive(Clone, Copy)]
 pub struct FaultyLine {
     pub line: u64,
@@ -24,7 +24,7 @@ pub struct FaultyLine {
 }
 
 impl FaultyLine {
-    /// The line for which an input is refused, if that is why, and more is known of it.
+    /// The line for which an input is refused, if that is the reason and more is known of it.
     pub fn of(why: Why) -> Option<FaultyLine>
         ensures { result ≡ faulty_line why }
     {
@@ -64,7 +64,7 @@ impl fmt::Display for FaultyLine {
     }
 }
 
-/// What is wrong with a line of FRAMES.
+/// The flaw of a line of FRAMES.
 #[derive(Clone, Copy)]
 struct FrameWords(FrameFlaw);
 
@@ -99,7 +99,7 @@ impl fmt::Display for FrameWords {
     }
 }
 
-/// What is wrong with a line of SCRIPT.
+/// The flaw of a line of SCRIPT.
 #[derive(Clone, Copy)]
 struct ScriptWords(ScriptFlaw);
 
@@ -151,7 +151,7 @@ impl fmt::Display for ScriptWords {
     }
 }
 
-/// What is wrong with a number of a script, and the greatest that may stand there.
+/// The flaw of a number in a script, and the greatest valid number.
 #[derive(Clone, Copy)]
 struct InvalidNumber {
     flaw: NumberFlaw,
@@ -175,7 +175,7 @@ impl fmt::Display for InvalidNumber {
     }
 }
 
-/// What is wrong with a line, whatever its fields are.
+/// The text for the flaw of a line, for any fields.
 fn text_of(flaw: LineFlaw) -> &'static str
     ensures { result.now ≡ line_flaw_text flaw }
 {

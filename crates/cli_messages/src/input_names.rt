@@ -1,4 +1,4 @@
-//! Which input of a line a name means.
+//! The input of a line for each name.
 
 ghost use Rattle.std.specs.Prelude.{◌≡◌, option_map, slice_get};
 ghost use Rattle.cli_arguments.specs.Inputs.{inputs_view};
@@ -9,7 +9,7 @@ ghost use Rattle.cli_messages.specs.Names.{input_at, kind_of, number_of, path_at
 use cli_arguments::{Inputs, Kind, Line, is_input_of};
 use command_common::InputName;
 
-/// The kind of an input of this name, and its number among those.
+/// The kind of the input with this name, and its number among those of its kind.
 fn role_of(name: InputName) -> (Kind, usize)
     ensures kind { result.0 ≡ kind_of name }
     ensures number { result.1 ≡ number_of name }
@@ -25,7 +25,7 @@ fn role_of(name: InputName) -> (Kind, usize)
     }
 }
 
-/// The path of this number among those of a kind.
+/// The path with this number among those of a kind.
 fn path_of(line: &Line, kind: Kind, number: usize) -> Option<&str>
     ensures { option_map (λ p. p.now) result
         ≡ slice_get (inputs_of_kind kind (line_view line.now)) number }
@@ -44,7 +44,7 @@ fn path_of(line: &Line, kind: Kind, number: usize) -> Option<&str>
     None
 }
 
-/// The path of the input that is reported of this name.
+/// The path of the input with this name.
 pub fn path_at(line: &Line, name: InputName) -> Option<&str>
     ensures { option_map (λ p. p.now) result ≡ path_at (line_view line.now) name }
 {
@@ -52,7 +52,7 @@ pub fn path_at(line: &Line, name: InputName) -> Option<&str>
     path_of(line, kind, number)
 }
 
-/// The input that is reported of this name.
+/// The input with this name.
 pub fn input_at<S>(inputs: &Inputs<S>, name: InputName) -> Option<&S>
     ensures { option_map (λ input. input.now) result ≡ input_at (inputs_view inputs.now) name }
 {

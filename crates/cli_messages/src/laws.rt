@@ -1,4 +1,4 @@
-//! What the definitions say of the input of a name.
+//! Laws of the definitions about the input with a name.
 
 ghost use Rattle.std.specs.Prelude.{◌≡◌, Some};
 ghost use Rattle.cli_files.specs.InputStates.{Told};
@@ -9,7 +9,7 @@ ghost use Rattle.cli_messages.specs.Names.{AreOfLine, input_at, path_at};
 
 use byte_device::Source;
 
-/// The input that is looked at, where a command is refused for one, is at the path that the help names.
+/// If a command is refused for an input, the second line has the path of the input that is examined.
 pub fn each_name_leads_to_its_path<S: Source>()
     ensures { (told : Told S) (line : Line) (inputs : Inputs S) (name : InputName) (input : S)
         → AreOfLine told line inputs

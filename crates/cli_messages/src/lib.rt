@@ -1,14 +1,14 @@
-//! What the program says on standard error: why a command failed, what helps a person with it, and what is noted of one
-//! that did not.
+//! The messages of the program on standard error: why a command failed, a hint for a person, and the notes of a command
+//! that succeeded.
 //!
-//! - `input_names`: which input a name means;
-//! - `file_kinds`: what a file that is refused looks like;
+//! - `input_names`: the input for each name;
+//! - `file_kinds`: the kind of a refused file;
 //! - `flaws`: the faulty line of an input, in words;
-//! - `hints`: what helps a person with a failure;
-//! - `second_lines`: the line in which that is said;
-//! - `standard_error`: what is said on standard error;
-//! - `ending`: what is said at the end, and the exit status;
-//! - `laws`: what is said of the input of a name.
+//! - `hints`: the hints for a person after a failure;
+//! - `second_lines`: the line with the hint;
+//! - `standard_error`: the lines on standard error;
+//! - `ending`: the messages at the end, and the exit status;
+//! - `laws`: laws about the input with a name.
 #![tactic(auto)]
 
 mod ending;

@@ -1,5 +1,5 @@
-//! The line that helps a person, after that of a failure, which programs read. It is one line, whatever a path or the
-//! system says, and begins with two spaces, so that it is taken for no other.
+//! The second line of a failure, for a person; programs read the first. It is one line, whatever a path or the error of
+//! the system contains, and begins with two spaces, so that it is distinct from every other line.
 
 ghost use Rattle.std.specs.Prelude.{◌≡◌, ◌++◌, codes, false, IfOk, List, string_bytes, ℕ};
 ghost use Rattle.cli_arguments.specs.Shown.{shown};
@@ -21,7 +21,7 @@ fn has_line_feed(text: &[u8]) -> bool
     text.iter().any(|byte| *byte == b'\n')
 }
 
-/// A text, if it is one line, and else none.
+/// A text, if it is one line, and else the empty text.
 fn one_line(text: &str) -> &str
     ensures { has_line_feed result.now ≡ false }
 {
@@ -32,8 +32,8 @@ fn one_line(text: &str) -> &str
     }
 }
 
-/// What is free in a line.
-fn free<T: Display>(alloc: Global, told: &T) -> Result<String, NoMemory>
+/// The text that contracts leave free in a line.
+fn free_text<T: Display>(alloc: Global, told: &T) -> Result<String, NoMemory>
     ensures { IfOk result (λ free. has_line_feed (string_bytes free) ≡ false) }
 {
     let mut free = String::new(alloc);
@@ -41,7 +41,7 @@ fn free<T: Display>(alloc: Global, told: &T) -> Result<String, NoMemory>
     Ok(String::from_str(alloc, one_line(&free))?)
 }
 
-/// The line that helps with a failure. It is one line whatever the path.
+/// The second line of a failure. It is one line, whatever the path contains.
 #[tactic(auto, using(crate::proofs::OneLine::feedless))]
 pub fn second_line(alloc: Global, help: &SecondLine<'_>) -> Result<String, NoMemory>
     ensures one { has_line_feed (shown help.now.path.now) ≡ false }
@@ -51,13 +51,13 @@ pub fn second_line(alloc: Global, help: &SecondLine<'_>) -> Result<String, NoMem
 {
     let subject = help.subject;
     let path = shown(alloc, help.path)?;
-    let known = free(alloc, help)?;
+    let known = free_text(alloc, help)?;
     let mut text = String::new(alloc);
     writeln!(text, "  {subject} is {path}{known}")?;
     Ok(text)
 }
 
-/// The line that says why the report failed.
+/// The line for the reason why the report failed.
 pub fn report_line(alloc: Global, reason: io::Error) -> Result<String, NoMemory>
     ensures { IfOk result (λ text. (free : List ℕ) × (has_line_feed free ≡ false)
         × (string_bytes text ≡ line (codes "  report is standard output" ++ free))) }

@@ -1,4 +1,4 @@
-//! What is said on standard error.
+//! The lines on standard error.
 
 ghost use Rattle.std.specs.Prelude.{◌≡◌, [], IfOk, IfSome, None, Some, string_bytes};
 ghost use Rattle.command_common.specs.Outputs.{Takes, writer};
@@ -18,7 +18,7 @@ use std::alloc::Global;
 use std::fmt::{self, Display, Write};
 use std::io;
 
-/// The line of words that are refused for this reason.
+/// The line for words that are refused for this reason.
 #[derive(Clone, Copy)]
 pub struct RefusedLine<'a>(pub &'a str);
 
@@ -42,7 +42,7 @@ fn line_of<T: Display>(alloc: Global, told: &T) -> Result<String, NoMemory>
     Ok(whole)
 }
 
-/// Gives the writer these bytes, and says whether it took them.
+/// Writes these bytes, and returns whether the writer accepted all of them.
 fn push_whole<E: Sink>(errors: &mut E, bytes: &[u8]) -> bool
     ensures { IsPushed (writer E.held E.failures errors.old errors.new) bytes.now result }
 {
@@ -52,7 +52,7 @@ fn push_whole<E: Sink>(errors: &mut E, bytes: &[u8]) -> bool
     }
 }
 
-/// Prints that memory ran out, which takes no memory.
+/// Prints that memory ran out, without using memory.
 pub fn print_out_of_memory<E: Sink>(errors: &mut E) -> bool
     ensures { SaysWanting (writer E.held E.failures errors.old errors.new) result }
 {
@@ -74,7 +74,7 @@ pub fn say<E: Sink, T: Display>(alloc: Global, told: &T, errors: &mut E) -> bool
     }
 }
 
-/// Says the line that helps with a failure of this line, where there is memory for it.
+/// Prints the second line of this failure, if there is memory for it.
 pub fn print_second_line<E: Sink>(alloc: Global, help: &SecondLine<'_>, errors: &mut E)
     ensures { (asked : Line) (failure : Failure) → Some help.now.path.now ≡ file_of asked failure
         → subject_text help.now.subject ≡ subject_of failure
@@ -85,7 +85,7 @@ pub fn print_second_line<E: Sink>(alloc: Global, help: &SecondLine<'_>, errors: 
     }
 }
 
-/// Says why the report failed, if that is known, after the line of that failure.
+/// Prints why the report failed, if that is known, after the line of that failure.
 pub fn print_report_fault<E: Sink>(alloc: Global, reason: Option<io::Error>, errors: &mut E)
     ensures unknown { reason ≡ None → Takes (writer E.held E.failures errors.old errors.new) [] }
     ensures known { IfSome reason (λ _. SaysReport (writer E.held E.failures errors.old errors.new)) }
@@ -110,7 +110,7 @@ fn lines_of(alloc: Global, notes: &[Note]) -> Result<String, NoMemory>
     Ok(lines)
 }
 
-/// Says the notes, a line each; or, where there is no memory for the lines, that.
+/// Prints one line for each note; or, if there is no memory for the lines, the line for that.
 pub fn print_notes<E: Sink>(alloc: Global, notes: &[Note], errors: &mut E)
     ensures { SaysNotes (writer E.held E.failures errors.old errors.new) notes.now }
 {

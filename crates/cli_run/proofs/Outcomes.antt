@@ -152,11 +152,11 @@ module _ {S D T : Type 0} (told : Told S) (behind : Inputs S) (out : Outs D T) w
       (by_fault (unopened_of told (input_at behind name)) name why o)
   told_outcome ended result tells o = subst (IsOutcome out) (sym tells) o
 
-pub carried_outcome : {S D T : Type 0} (told : Told S) (line : Line) (plan : Plan) (before behind : Inputs S)
-    (out : Outs D T) (report : Writer) (r : Result Status CommandFault) (notes noted : List Note)
+pub carried_outcome : {S D T : Type 0} {told : Told S} {line : Line} {plan : Plan} {before behind : Inputs S}
+    {out : Outs D T} {report : Writer} {r : Result Status CommandFault} {notes noted : List Note}
     → Carried told line plan before behind out report r notes noted
     → IsOutcome out r
-carried_outcome told line plan before behind out report r notes noted c =
+carried_outcome {told = told} {plan = plan} {before = before} {behind = behind} {out = out} {report = report} {r = r} c =
     told_outcome told behind out c.ended r c.tells
     (done (deed_of (opening_told told) plan (readers_by told.left told.failures before behind)
     (readers_by told.whole told.failures before behind) out) out report c.ended c.executes)

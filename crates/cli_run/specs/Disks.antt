@@ -10,12 +10,12 @@ use Rattle.command_common.specs.declared.notes.Note.{Note}
 use Rattle.cli_arguments.specs.{Plan.IsPlanOf, declared.plan.Plan.Plan}
 use Rattle.cli_run.specs.Plans.{Executes, Notes, readers_by}
 
--- There are as many inputs of each kind.
+-- Each kind has the same number of inputs before and after.
 abbrev pub AreAsMany : {S : Type 0} → Inputs S → Inputs S → Type 0
 AreAsMany old new = (kind : Kind) → length (of_kind kind new) ≡ length (of_kind kind old)
 
--- The plan of a line ended so over inputs with the paths of the line, each of which was opened at its first read, if
--- that came; this was told of it, and where it ended well, these notes were added to those.
+-- The plan of a line had this result over inputs with the paths of the line, each of which was opened at its first
+-- read, if it was read. If the plan succeeded, its notes were added to `notes`.
 pub record Carried {S D T : Type 0} (told : Told S) (line : Line) (plan : Plan) (before behind : Inputs S)
     (out : Outs D T) (report : Writer) (result : Result Status CommandFault) (notes noted : List Note) : Type 0 where
   pub plan_is : IsPlanOf plan line

@@ -20,14 +20,14 @@ use Rattle.command_common.specs.declared.notes.Note.{Note}
 use Rattle.cli_arguments.specs.declared.plan.Plan.{Plan}
 use Rattle.cli_run.specs.{Disks.Carried, Plans.replaces_of}
 
--- why OUT failed after it took so many bytes
+-- why OUT failed after it accepted this number of bytes
 abbrev pub out_failure : Option OutFault → ℕ → Failure
 out_failure None n = Command (Output n)
 out_failure (Some (fault.NotCreated _)) n = CannotCreate (record {})
 out_failure (Some (fault.NotReplaced _)) n = CannotReplace
 out_failure (Some fault.OutOfMemory) n = Command OutOfMemory
 
--- what is told of a command that ended so, with this fault of OUT
+-- the reported result of a command with this result and this fault of OUT
 abbrev pub command_fault_of : Option OutFault → Result Status CommandFault → Result Status Failure
 command_fault_of fault (Ok status) = Ok status
 command_fault_of fault (Err (Input name why)) = Err (Command (Input name why))
@@ -35,18 +35,18 @@ command_fault_of fault (Err (Output n)) = Err (out_failure fault n)
 command_fault_of fault (Err (Report n)) = Err (Command (Report n))
 command_fault_of fault (Err OutOfMemory) = Err (Command OutOfMemory)
 
--- Nothing was published. OUT's draft took these bytes, as many as are told where OUT failed.
+-- Nothing was published. OUT's draft accepted these bytes; if OUT failed, their number is reported.
 pub record IsNotPut {D T : Type 0} (out : Outs D T) (ended : Result Status CommandFault) : Type 0 where
   pub bytes : List ℕ
   pub took : Appends (out.held out.old.draft) (out.held out.new.draft) bytes
   pub kept : out.published out.new.target ≡ out.published out.old.target
   pub count : (n : ℕ) → ended ≡ Err (Output n) → n ≡ length bytes
 
--- A text was published, or OUT is as it was, since the command has none.
+-- A text was published, or OUT is unchanged, since the command has none.
 abbrev pub IsPut : {D T : Type 0} → Outs D T → Type 0
 IsPut out = ((text : List ℕ) × IsOutPublished (known_of out) text) ⊎ (out.new ≡ out.old)
 
--- A text is published where the command ended well, or failed only to report it; else nothing is.
+-- A text is published if the command succeeded, or failed only to report that; otherwise nothing is.
 abbrev pub IsOutcome : {D T : Type 0} → Outs D T → Result Status CommandFault → Type 0
 IsOutcome out (Ok status) = IsPut out
 IsOutcome out (Err (Input name why)) = IsNotPut out (Err (Input name why))
@@ -54,11 +54,10 @@ IsOutcome out (Err (Output n)) = IsNotPut out (Err (Output n))
 IsOutcome out (Err (Report n)) = IsPut out
 IsOutcome out (Err OutOfMemory) = IsNotPut out (Err OutOfMemory)
 
--- What was called of the system in a command: the paths that inputs were made for, before it and after it, which alone
--- may be opened, what the system said of OUT's path and of theirs, the
--- calls for OUT, and why it was not begun or not published, if it was not. What is told of an input stands first,
--- with the paths that were opened for it; then what is known of OUT's draft and how often it failed, and of what was
--- published.
+-- The noted calls to the system in a command: the paths for which inputs were made, before and after it; the replies of
+-- the system about OUT's path and about theirs; the calls for OUT; and why it was not created or not published, if it
+-- was not. The first fields are the ghost functions of an input, with the paths that were opened for it; then the known
+-- facts about OUT's draft and the number of its failures, and about the published text.
 pub record Calls (S D T : Type 0) : Type 0 where
   pub told : Told S
   pub held : D → Option (List ℕ)
@@ -89,15 +88,15 @@ calls_of told held draft_failures published target_failures old new = record {
   fault = fault_of (stage_of new.out.draft.state);
 }
 
--- OUT in the command, between these two states
+-- OUT in the command, with these two states
 abbrev pub outs_in : {S D T : Type 0} → Calls S D T → Out D T → Out D T → Outs D T
 outs_in calls begun done = outs calls.held calls.draft_failures calls.published calls.target_failures begun done
 
--- The command of a line ended over files of which nothing is known, and this is told of it; where it ended well, these
--- are its notes. Inputs were made for its paths, each once and in the order of the command line, and for no other. OUT
--- has the path of the line, unless an input's file is there, and replaces what the plan says. Where a text was
--- published, the calls for OUT are those by which it was put at that path; where none was, those by which nothing is
--- left, with the bytes that the draft took; and where the draft took none and did not fail there are none.
+-- The command of a line ended over files of which nothing is known, with this reported result; if it succeeded, these
+-- are its notes. Inputs were made for its paths, once each and in the order of the command line, and for no other. OUT
+-- has the path of the line, unless an input's file is there, and the plan's rule of replacement. If a text was
+-- published, the calls for OUT are those that put it at that path; if not, those that leave nothing, with the bytes
+-- that the draft accepted; and if the draft accepted none and did not fail, there are none.
 pub record IsCarriedOut {S D T : Type 0} (calls : Calls S D T) (line : Line) (report : Writer)
     (told : Result Status Failure) (notes : List Note) : Type 0 where
   pub path : Option Text
@@ -125,7 +124,7 @@ pub record IsCarriedOut {S D T : Type 0} (calls : Calls S D T) (line : Line) (re
   pub untouched : IsKept (known_of (outs_in calls begun done)) → calls.called ≡ []
   pub told_is : told ≡ command_fault_of calls.fault ended
 
--- There was no memory to begin the command: nothing was called for OUT, and nothing is told.
+-- Memory ran out before the command began: no call was made for OUT, and nothing is reported.
 pub record IsUnbegun {S D T : Type 0} (calls : Calls S D T) (line : Line) (report : Writer)
     (told : Result Status Failure) : Type 0 where
   pub wanting : told ≡ Err (Command OutOfMemory)
@@ -134,6 +133,6 @@ pub record IsUnbegun {S D T : Type 0} (calls : Calls S D T) (line : Line) (repor
   pub report_same : report.new ≡ report.old
   pub report_unfailed : report.failures_new ≡ report.failures_old
 
--- A line was carried out, or there was no memory to begin that; and this is told of it.
+-- A line was carried out with this reported result, or memory ran out before that.
 abbrev pub IsDone : {S D T : Type 0} → Calls S D T → Line → Writer → Result Status Failure → List Note → Type 0
 IsDone calls line report told notes = IsUnbegun calls line report told ⊎ IsCarriedOut calls line report told notes

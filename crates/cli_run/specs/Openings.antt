@@ -1,4 +1,4 @@
--- Inputs that were not opened, and the reports of that.
+-- Inputs that were not opened, and how that is reported.
 use Rattle.std.specs.Prelude.{◌≡◌, ◌≢◌, ◌⊎◌, ℕ, List, [], ◌∷◌, Some}
 use Rattle.std.specs.IoError.{error_kind}
 use Rattle.std.specs.declared.io.ErrorKind.TheVariants.{OutOfMemory as WantsMemory}
@@ -7,8 +7,8 @@ use Rattle.cli_files.specs.declared.input_state.Unopened.TheVariants.{Refused}
 use Rattle.byte_device.specs.Disks.{At, FileAt, Holding, Missing, Path}
 use Rattle.byte_device.specs.declared.disks.CannotOpen.{CannotOpen}
 
--- The input was read, and its disk refused it: its own path was opened, once; memory did not run out, as far as the
--- disk says; and no file is known to be there.
+-- The input was read, and its disk refused it: only its own path was opened, once; memory did not run out, as far as
+-- the disk reports; and no file is known to be there.
 pub record IsRefusedByDisk {S : Type 0} (told : Told S) (input : S) : Type 0 where
   pub refused : CannotOpen
   pub stage_is : told.stage input ≡ Unopened (Refused refused)
@@ -17,7 +17,7 @@ pub record IsRefusedByDisk {S : Type 0} (told : Told S) (input : S) : Type 0 whe
   pub reason : (path : Path) → told.file input ≡ At path → error_kind refused.reason ≢ WantsMemory
   pub absent : (bytes : List ℕ) → told.file input ≡ Holding bytes → ⊥
 
--- The disks of both inputs have the same file for them, or both none.
+-- The disks of both inputs have the same file for them, or neither has one.
 pub record HaveOneFile {R S : Type 0} (told : Told R) (also : Told S) (input : R) (other : S) : Type 0 where
   pub file : FileAt
   pub known : (file ≡ Missing) ⊎ ((bytes : List ℕ) × (file ≡ Holding bytes))

@@ -1,4 +1,4 @@
--- How the command of a plan ends.
+-- The result of the command of a plan.
 use Rattle.std.specs.Prelude.{◌≡◌, ℕ, Bool, true, false, not, List, [], ◌∷◌, Option, Result}
 use Rattle.std.specs.FinSet as set
 use Rattle.cli_arguments.specs.declared.plan.Plan.{Plan}
@@ -24,17 +24,17 @@ use Rattle.archive_exchange.specs.Rehearse.{rehearse}
 use Rattle.index_build.specs.Index.{index}
 use Rattle.command_extract.specs.Extract.{Extraction, Extracts}
 
--- which files the OUT of a plan replaces: a summary and an index their own kind, a slice its own bytes, and an archive
--- those below it
+-- which files the OUT of a plan replaces: a summary or an index one of its own kind, a slice a file with the same
+-- bytes, and an archive one below it
 abbrev pub replaces_of : Plan → ReplaceRule
 replaces_of plan.Summary = Summaries
 replaces_of plan.Index = Indexes
 replaces_of (plan.Extract _ _) = SameBytes
 replaces_of _ = ArchivesBelow
 
--- what the command of a plan is, over inputs: it writes the empty archive, it writes OUT, it writes OUT while it reads,
--- or so that it passes over what is refused, it writes a slice, if there is one, or it reports; and it is none where
--- inputs are missing
+-- the kind of a plan's command, over inputs: it writes the empty archive, it writes OUT, it writes OUT while it reads,
+-- or so that it passes over refused inputs, it writes a slice, if there is one, or it reports; it is `none` if inputs
+-- are missing
 pub data Deed : Type 1 where
   empties : Deed
   changes : Command → Deed
@@ -44,7 +44,7 @@ pub data Deed : Type 1 where
   answers : Query → Deed
   none : Deed
 
--- inputs by what they are, as they are read between two states of theirs
+-- inputs by their kinds, each with its two states
 abbrev pub readers_by : {S : Type 0} → (S → Option (List ℕ)) → (S → ℕ) → Inputs S → Inputs S → Inputs (Reader S)
 readers_by left failures old new = record {
   archives = readers left failures old.archives new.archives;
@@ -56,22 +56,22 @@ readers_by left failures old new = record {
   frames = readers left failures old.frames new.frames;
 }
 
--- what is said of the first of these and the others, or else this, where there is none
+-- the function of the first item and the others, or `otherwise` if there is no item
 abbrev pub of_first : {X : Type 0} {A : Type 1} → A → (X → List X → A) → List X → A
 of_first otherwise says [] = otherwise
 of_first otherwise says (x ∷ xs) = says x xs
 
--- what `name` asks of an archive and the further ones
+-- `name`, over an archive and the further ones
 abbrev pub named_of : {S : Type 0} → List (Reader S) → List ℕ → Deed
 named_of archives sought = of_first none (λ archive others. answers (name archive others sought)) archives
 
--- what `list` asks of the first archive, and its index, if there is one
+-- `list`, over the first archive, and its index, if there is one
 abbrev pub listed_of : {S : Type 0} → List (Reader S) → List (Reader S) → List (Reader S) → Deed
 listed_of (archive ∷ _) (place ∷ _) indexes = answers (list_of archive place indexes)
 listed_of _ _ _ = none
 
--- what a plan without OUT asks of its inputs, as they are read from their start, and from any place: an archive and the
--- further ones are asked as their join
+-- a plan without OUT, over its inputs, as they are read from their start and at any offset: an archive and the further
+-- ones are read as their join
 abbrev pub asked_of : {S : Type 0} → Plan → Inputs (Reader S) → Inputs (Reader S) → Deed
 asked_of (plan.Find uuid) inputs places =
     answers (find_of inputs.archives places.archives places.indexes uuid)
@@ -103,7 +103,7 @@ writes_archive (plan.Extract _ _) = false
 writes_archive plan.Summary = false
 writes_archive asked = not (only_reports asked)
 
--- what `summary` does, over an archive, and its index, if there is one
+-- `summary`, over an archive, and its index, if there is one
 abbrev pub summary_of : {S : Type 0} → Reader S → Reader S → List (Reader S) → Deed
 summary_of archive place [] = changes (summary archive)
 summary_of archive place (named ∷ _) = changes (summary_at named place)
@@ -113,16 +113,16 @@ abbrev pub summarized_of : {S : Type 0} → List (Reader S) → List (Reader S) 
 summarized_of (archive ∷ _) (place ∷ _) indexes = summary_of archive place indexes
 summarized_of _ _ _ = none
 
--- what `merge` does, over an archive and the further ones
+-- `merge`, over an archive and the further ones
 abbrev pub merged_of : {S D T : Type 0} → List (Reader S) → Outs D T → Deed
 merged_of archives out = of_first none (λ archive others. streams (merge_as_it_comes archive others out)) archives
 
--- what `admit` does, over an archive and files, with `--keep-going` or without it
+-- `admit`, over an archive and files, with or without `--keep-going`
 abbrev pub admitted_of : {S : Type 0} → Bool → (S → Opening) → Reader S → List (Reader S) → Writer → Deed
 admitted_of false opening archive files draft = streams (admit_as_it_comes archive files draft)
 admitted_of true opening archive files draft = passes (admit_passing_as_it_comes opening archive files draft)
 
--- what any plan does, over the same inputs, each of which says what came of opening it
+-- any plan, over the same inputs, each with the result of opening it
 abbrev pub deed_of : {S D T : Type 0} → (S → Opening) → Plan → Inputs (Reader S) → Inputs (Reader S) → Outs D T → Deed
 deed_of opening plan.New inputs places out = empties
 deed_of opening (plan.Admit keep_going) inputs places out =
@@ -145,21 +145,21 @@ deed_of opening plan.Delta inputs places out =
     (out_of out).draft)) inputs.summaries) inputs.archives
 deed_of opening asked inputs places out = asked_of asked inputs places
 
--- What is asked is answered so, and nothing else is.
+-- The result of a plan that only reports; there is none for any other.
 abbrev pub EndsAsked : Deed → Writer → Result Status CommandFault → Type 0
 EndsAsked (answers query) report result = EndsReport query report result
 EndsAsked _ _ _ = ⊥
 
--- A plan without OUT ends so over its inputs.
+-- The result of a plan without OUT over its inputs.
 abbrev pub Answers : {S : Type 0} → Plan → Inputs (Reader S) → Inputs (Reader S) → Writer
     → Result Status CommandFault → Type 0
 Answers asked inputs places report result = EndsAsked (asked_of asked inputs places) report result
 
--- The query ends so, and OUT is as it was.
+-- The result of a query; OUT is unchanged.
 abbrev pub EndsQuery : {D T : Type 0} → Query → Outs D T → Writer → Result Status CommandFault → Type 0
 EndsQuery query out report result = EndsReport query report result × (out.new ≡ out.old)
 
--- It ends so.
+-- The result of the command.
 abbrev pub EndsDeed : {D T : Type 0} → Deed → Outs D T → Writer → Result Status CommandFault → Type 0
 EndsDeed empties out report result =
     Publishes (out_of out) report (written set.empty) (report_of set.empty []) result
@@ -170,20 +170,19 @@ EndsDeed (extracts command) out report result = Extracts command out report resu
 EndsDeed (answers query) out report result = EndsQuery query out report result
 EndsDeed none out report result = ⊥
 
--- How the command of a plan ends over its inputs, each of which says what came of opening it, as they are read from
--- their start, and as they are read from any place.
+-- The result of the command of a plan over its inputs, each with the result of opening it, as they are read from their
+-- start and at any offset.
 abbrev pub Executes : {S D T : Type 0} → (S → Opening) → Plan → Inputs (Reader S) → Inputs (Reader S) → Outs D T
     → Writer → Result Status CommandFault → Type 0
 Executes opening asked inputs places out report result =
     EndsDeed (deed_of opening asked inputs places out) out report result
 
--- What `name` notes of an archive and the further ones.
+-- The notes of `name` for an archive and the further ones.
 abbrev pub NotesNamed : {S : Type 0} → List (Reader S) → List ℕ → List Note → List Note → Type 0
 NotesNamed archives sought old new =
     of_first (new ≡ old) (λ archive others. NotesUnderscored archive others sought old new) archives
 
--- What the command of a plan that ended well notes over these inputs: `admit`, `retire` and `name` alone note
--- something.
+-- The notes of a plan's command over these inputs, if it succeeded: only `admit`, `retire` and `name` add notes.
 abbrev pub Notes : {S : Type 0} → (S → Opening) → Plan → Inputs (Reader S) → List Note → List Note → Type 0
 Notes opening (plan.Admit keep_going) inputs old new =
     of_first (new ≡ old) (λ archive _. NotesAdmit keep_going opening archive inputs.files old new) inputs.archives

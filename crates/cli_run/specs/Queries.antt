@@ -1,4 +1,4 @@
--- Queries of archives, which are read by their indexes, or whole; and the notes of `name`.
+-- Queries of archives, which are read by their indexes, or to their ends; and the notes of `name`.
 use Rattle.std.specs.Prelude.{◌≡◌, ◌<◌, ◌⊎◌, ℕ, List, [], ◌∷◌, ◌++◌, Bool, true, false, nat_lt, length, Option, Some}
 use Rattle.std.specs.Prelude.{None}
 use Rattle.std.specs.Prelude.{if◌then◌else◌, Result, Ok, Err}
@@ -15,15 +15,15 @@ use Rattle.command_index_queries.specs.{Find.find_by, List.list_at}
 use Rattle.command_frames.specs.Frames.{frames_at, symbolicate_at}
 use Rattle.command_extract.specs.{Extract.Extraction, Extract.extract, Indexed.extract_at}
 
--- the fault of the index of this number, which has no archive, and of the archive that has no index
+-- the fault of the index with this number, which has no archive, and of the archive without an index
 abbrev pub no_archive : ℕ → CommandFault
 no_archive number = Input (Index number) NoArchive
 
 abbrev pub no_index : ℕ → CommandFault
 no_index number = Input (Archive number) NoIndex
 
--- of so many archives and indexes, the first index without an archive, or archive without an index, is refused with
--- this fault
+-- with these numbers of archives and indexes, the first index without an archive, or archive without an index, is
+-- refused with this fault
 abbrev pub IsAlone : ℕ → ℕ → CommandFault → Type 0
 IsAlone archives indexes fault =
     ((archives < indexes) × (fault ≡ no_archive archives)) ⊎ ((indexes < archives) × (fault ≡ no_index indexes))
@@ -34,7 +34,7 @@ index_for_each_archive archives indexes = if nat_lt archives indexes then Err (n
     else if nat_lt indexes archives then Err (no_index indexes)
     else Ok tt
 
--- this query after that check, or its refusal
+-- the query if the check succeeded, or its refusal
 abbrev pub if_paired : Result (Unit {0}) CommandFault → Query → Query
 if_paired (Ok _) query = query
 if_paired (Err fault) query = record {
@@ -43,7 +43,7 @@ if_paired (Err fault) query = record {
   Unfailed = ⊥;
 }
 
--- `find`, over archives as they are read from their start, and from any place, and their indexes, if they have some
+-- `find`, over archives as they are read from their start and at any offset, and their indexes, if there are any
 abbrev pub find_of : {S : Type 0} → List (Reader S) → List (Reader S) → List (Reader S) → List ℕ → Query
 find_of (archive ∷ others) places [] uuid = find archive others uuid
 find_of archives places indexes uuid =
@@ -54,7 +54,7 @@ abbrev pub list_of : {S : Type 0} → Reader S → Reader S → List (Reader S) 
 list_of archive place [] = list archive
 list_of archive place (index ∷ _) = list_at index place
 
--- `symbolicate`, over archives and indexes as those of `find`
+-- `symbolicate`, over archives and indexes as for `find`
 abbrev pub symbolicate_of : {S : Type 0} → List (Reader S) → List (Reader S) → List (Reader S) → SliceKey → Option ℕ
     → Bool → Bool → List ℕ → Query
 symbolicate_of (archive ∷ others) places [] key load lines slices addresses =
@@ -63,14 +63,14 @@ symbolicate_of archives places indexes key load lines slices addresses =
     if_paired (index_for_each_archive (length archives) (length indexes))
     (symbolicate_at indexes places key load lines slices addresses)
 
--- `frames`, over FRAMES, and such archives and indexes
+-- `frames`, over FRAMES, and archives and indexes as for `find`
 abbrev pub frames_of : {S : Type 0} → Bool → Bool → Reader S → List (Reader S) → List (Reader S) → List (Reader S)
     → Query
 frames_of lines slices crash (archive ∷ others) places [] = frames lines slices crash archive others
 frames_of lines slices crash archives places indexes =
     if_paired (index_for_each_archive (length archives) (length indexes)) (frames_at lines slices crash indexes places)
 
--- the same of a command that writes a slice
+-- the same for a command that writes a slice
 abbrev pub extraction_if_paired : Result (Unit {0}) CommandFault → Writer → Extraction → Extraction
 extraction_if_paired (Ok _) draft command = command
 extraction_if_paired (Err refused) draft command = record {
@@ -82,7 +82,7 @@ extraction_if_paired (Err refused) draft command = record {
   Lacks = λ told. ⊥;
 }
 
--- `extract`, over archives and indexes as those of `find`
+-- `extract`, over archives and indexes as for `find`
 abbrev pub extract_of : {S : Type 0} → List (Reader S) → List (Reader S) → List (Reader S) → SliceKey → Option Digest
     → Writer → Extraction
 extract_of (archive ∷ others) places [] key digest draft = extract archive others key digest draft
@@ -90,20 +90,19 @@ extract_of archives places indexes key digest draft =
     extraction_if_paired (index_for_each_archive (length archives) (length indexes)) draft
     (extract_at indexes places key digest draft)
 
--- the name that a symbol has with a `_` before it alone, as it is noted
+-- the name in a note that a symbol has it only with a `_` before it
 abbrev pub underscored_in : Note → Option (List ℕ)
 underscored_in (Retired key digest) = None
 underscored_in (Missing key digest) = None
 underscored_in (Underscored name) = Some name.items
 
--- of such a name there is a note more, and else none
+-- if so, one note with this name is added, and otherwise none
 abbrev pub AddsUnderscored : Bool → List ℕ → List Note → List Note → Type 0
 AddsUnderscored true name old new =
     (note : Note) × (underscored_in note ≡ Some name) × (new ≡ old ++ note ∷ [])
 AddsUnderscored false name old new = new ≡ old
 
--- `name` notes: whether the join of the archives has a symbol of the name with a `_` before it alone, and where that is
--- so there is a note more.
+-- The notes of `name`: one is added if the join of the archives has a symbol of the name only with a `_` before it.
 abbrev pub NotesUnderscored : {R S : Type 0} → Reader R → List (Reader S) → List ℕ → List Note → List Note → Type 0
 NotesUnderscored archive others name old new =
     (is_underscored : Bool) × HoldTogether archive others (λ o. SaysUnderscored o name is_underscored)

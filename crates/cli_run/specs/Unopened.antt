@@ -1,4 +1,4 @@
--- How a command ended whose input was not opened at its first read.
+-- The result of a command whose input was not opened at its first read.
 use Rattle.std.specs.Prelude.{◌≡◌, Option, Some, None, Result, Ok, Err}
 use Rattle.cli_files.specs.InputStates.{Told, unopened_in}
 use Rattle.cli_files.specs.declared.input_state.Unopened.{Unopened}
@@ -14,15 +14,16 @@ abbrev pub unopened_of : {S : Type 0} → Told S → Option S → Option Unopene
 unopened_of told None = None
 unopened_of told (Some input) = unopened_in (told.stage input)
 
--- what is told where a command is refused for this input, which was not opened for this reason, if it was not
+-- the fault that is reported if a command is refused for this input, and `why` the input was not opened, if it was not
 abbrev pub fault_at : Option Unopened → InputName → Why → CommandFault
 fault_at None name why = Input name why
 fault_at (Some (unopened.Refused refused)) name why = Input name NotOpened
 fault_at (Some unopened.OutOfMemory) name why = OutOfMemory
 
--- This is told of a command that ended so, after which its inputs are these: where it is refused for an input that was
--- not opened, why that was not, and else how it ended.
-abbrev pub ReportsUnopened : {S : Type 0} → Told S → Inputs S → Result Status CommandFault → Result Status CommandFault → Type 0
+-- The reported result of a command with this result and these inputs after it: if an input is refused that was not
+-- opened, the reason for that; otherwise the command's result.
+abbrev pub ReportsUnopened : {S : Type 0} → Told S → Inputs S → Result Status CommandFault
+    → Result Status CommandFault → Type 0
 ReportsUnopened told inputs (Ok status) result = result ≡ Ok status
 ReportsUnopened told inputs (Err (Input name why)) result =
     result ≡ Err (fault_at (unopened_of told (input_at inputs name)) name why)

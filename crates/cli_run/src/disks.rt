@@ -1,4 +1,4 @@
-//! A plan that is carried out over inputs which are opened at their first read.
+//! A plan that is carried out over inputs that are opened at their first read.
 
 ghost use Rattle.cli_files.specs.LazyInputs.{told};
 ghost use Rattle.command_common.specs.Outputs.{outs, writer};

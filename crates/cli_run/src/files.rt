@@ -31,8 +31,8 @@ use memory::{Heap, NoMemory};
 use std::io::BufReader;
 use std::rt::Files;
 
-/// Takes the path of OUT, if the line has one, and which files it replaces.
-fn begin<F: Files>(
+/// Sets the path of OUT, if the line has one, and which files it replaces.
+fn begin_out<F: Files>(
     files: &mut SystemFiles<'_, F>,
     line: &Line,
     replaces: ReplaceRule,
@@ -54,7 +54,7 @@ fn begin<F: Files>(
     files.begin(path, &inputs, replaces)
 }
 
-/// The inputs of a line, each of which is opened at its first read.
+/// The inputs of a line, each opened at its first read.
 fn inputs_for<'l, 'f, F: Files>(
     files: &mut SystemFiles<'f, F>,
     line: &'l Line,
@@ -73,7 +73,7 @@ fn inputs_for<'l, 'f, F: Files>(
     line.by_kind(files.alloc(), inputs)
 }
 
-/// Why OUT failed after it took so many bytes: it was not begun, or not published, or its device failed.
+/// Why OUT failed after it accepted this number of bytes: it was not created, or not published, or its device failed.
 fn out_failure(fault: Option<OutFault>, written: u128) -> Failure
     ensures { result ≡ out_failure fault written }
 {
@@ -85,8 +85,11 @@ fn out_failure(fault: Option<OutFault>, written: u128) -> Failure
     }
 }
 
-/// What is told of a command that ended so, with this fault of OUT.
-fn told(ended: Result<Status, CommandFault>, fault: Option<OutFault>) -> Result<Status, Failure>
+/// The reported result of a command with this result and this fault of OUT.
+fn with_out_failure(
+    ended: Result<Status, CommandFault>,
+    fault: Option<OutFault>,
+) -> Result<Status, Failure>
     ensures { result ≡ command_fault_of fault ended }
 {
     match ended {
@@ -96,7 +99,7 @@ fn told(ended: Result<Status, CommandFault>, fault: Option<OutFault>) -> Result<
     }
 }
 
-/// The same with its notes, where it ended well.
+/// The same, with its notes if it succeeded.
 fn told_with(
     ended: Result<Status, CommandFault>,
     notes: Vec<Note, Heap>,
@@ -106,16 +109,16 @@ fn told_with(
         (λ both. (Ok both.0 ≡ command_fault_of fault ended) × (both.1.items ≡ notes.items))
         (λ failure. Err failure ≡ command_fault_of fault ended) }
 {
-    match told(ended, fault) {
+    match with_out_failure(ended, fault) {
         Ok(status) => Ok((status, notes)),
         Err(failure) => Err(failure),
     }
 }
 
-/// Carries out the plan of a line over files of the system, whose report goes to `report`. Each input is opened at its
-/// first read, and closed at its end; OUT's draft is created with its first bytes, published when it is whole, and
-/// removed if it is not. A command line without OUT creates no draft. `seen` receives what is known of the file at
-/// which the command failed. The notes of a command that succeeded are returned.
+/// Carries out the plan of a line over files of the system, and writes its report to `report`. Each input is opened at
+/// its first read, and closed at its end. OUT's draft is created with its first bytes, published when it is complete,
+/// and otherwise removed. A command line without OUT creates no draft. `seen` receives the known facts about the file
+/// at which the command failed. The notes of a command that succeeded are returned.
 pub fn execute_line<'f, F: Files, P: Sink>(
     files: &mut SystemFiles<'f, F>,
     line: &Line,
@@ -138,7 +141,7 @@ pub fn execute_line<'f, F: Files, P: Sink>(
 {
     let heap = Heap::new(files.alloc())?;
     let mut notes = Vec::new(heap.share());
-    begin(files, line, replace_rule(plan))?;
+    begin_out(files, line, replace_rule(plan))?;
     let mut inputs = inputs_for(files, line)?;
     let ended = execute_on::<PlainArchive, IndexedArchive, _, _, _>(
         heap,

@@ -1,4 +1,4 @@
-//! What the definitions say of an output that has no path, and of inputs that were not opened.
+//! Laws of the definitions about an output without a path, and about inputs that were not opened.
 
 ghost use Rattle.std.specs.Prelude.{◌≡◌, ◌≢◌, ◌⊎◌, [], Err, List, None, Result, Some};
 ghost use Rattle.cli_files.specs.InputStates.{Told, Unopened, Waiting, unopened_in};
@@ -23,7 +23,7 @@ ghost use Rattle.cli_run.specs.Openings.{HaveOneFile, IsRefusedByDisk};
 
 use byte_device::{Sink, Source, Target};
 
-/// For an output without a path nothing is called: it takes nothing, and is created nowhere.
+/// For an output without a path no call is made: it accepts nothing, and is not created.
 pub fn nothing_is_called_without_a_path<S: Source, D: Sink, T: Target>()
     ensures { (calls : Calls S D T) (line : Line) (report : Writer) (told : Result Status Failure)
         (notes : List Note)
@@ -32,8 +32,8 @@ pub fn nothing_is_called_without_a_path<S: Source, D: Sink, T: Target>()
         → calls.called ≡ [] }
 {}
 
-/// Where a command is refused since an input cannot be opened, the disk refused that input at its first read, and
-/// nothing else makes it so.
+/// If a command is refused because an input cannot be opened, the disk refused that input at its first read; there is
+/// no other cause.
 pub fn refused_by_the_disk<S: Source, D: Sink, T: Target>()
     ensures { (told : Told S) (line : Line) (plan : Plan) (before behind : Inputs S) (out : Outs D T) (report : Writer)
         (result : Result Status CommandFault) (notes noted : List Note) (name : InputName)
@@ -42,8 +42,8 @@ pub fn refused_by_the_disk<S: Source, D: Sink, T: Target>()
         → (input : S) × (input_at behind name ≡ Some input) × IsRefusedByDisk told input }
 {}
 
-/// Where the input at which a command failed was not opened, why it was not is told, and nothing else; where it was,
-/// how the command ended is.
+/// If the input at which a command failed was not opened, only the reason for that is reported; if it was opened, the
+/// command's own result is reported.
 pub fn unopened_inputs_are_told<S: Source, D: Sink, T: Target>()
     ensures refused { (told : Told S) (line : Line) (plan : Plan) (before behind : Inputs S) (out : Outs D T)
         (report : Writer) (result : Result Status CommandFault) (notes noted : List Note) (name : InputName) (why : Why)
@@ -71,8 +71,9 @@ pub fn unopened_inputs_are_told<S: Source, D: Sink, T: Target>()
         → (result ≡ Err (Input name why)) × (why ≢ CannotOpen) }
 {}
 
-/// Of two calls that are refused at one input, whose disks have the same file for it, or both none, both tell that it
-/// cannot be opened, or neither does; unless one is refused before the first read of the input, as for its number.
+/// Two calls are refused at one input, whose disks have the same file for it, or neither has one. Then both report that
+/// it cannot be opened, or neither does; unless one is refused before the first read of the input, for instance for its
+/// number.
 pub fn one_opening<R: Source, S: Source, D: Sink, T: Target>()
     ensures { (told : Told R) (also : Told S) (line : Line) (plan another : Plan) (before behind : Inputs R)
         (first last : Inputs S) (out more : Outs D T) (report told_also : Writer)

@@ -1,5 +1,5 @@
-//! The program but for `main`: a command line, carried out over any files and over those of the system, and
-//! what is said of how it ended.
+//! The program without `main`: a command line, carried out over any files and over those of the system, and its
+//! messages.
 //!
 //! - `queries`: the command of a plan without OUT, over its inputs and the report;
 //! - `updates`: the command of a plan that writes OUT from an archive;
@@ -8,12 +8,12 @@
 //! - `disks`: a plan over inputs that are opened at their first read;
 //! - `files`: a line over files of the system;
 //! - `runs`: the words of a command line, carried out over files of the system;
-//! - `laws`: what is said of an output without a path, and of inputs that were not opened.
+//! - `laws`: laws about an output without a path, and about inputs that were not opened.
 //!
 //! # Why it is so
 //!
 //! - A plan that only reports has an OUT without a path.
-//! - Plans without OUT are matched apart: `answer` needs no OUT, and short matches prove faster than one.
+//! - Plans without OUT are matched separately: `answer` needs no OUT, and short matches prove faster than one.
 #![tactic(auto)]
 
 mod disks;

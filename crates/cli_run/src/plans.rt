@@ -18,8 +18,8 @@ use command_common::{CommandFault, Note, Status};
 use command_write::run_new;
 use memory::Heap;
 
-/// Which files the OUT of a plan replaces: a summary and an index their own kind, a slice its own bytes, an archive
-/// those below it.
+/// Which files the OUT of a plan replaces: a summary or an index one of its own kind, a slice a file with the same
+/// bytes, an archive one below it.
 pub fn replace_rule(plan: &Plan) -> ReplaceRule
     ensures { result ≡ replaces_of plan.now }
 {
@@ -31,8 +31,8 @@ pub fn replace_rule(plan: &Plan) -> ReplaceRule
     }
 }
 
-/// Carries out a plan over its inputs. An archive of the type `L` is asked for addresses, and one of `A` for all else.
-/// Notes of the command are added to `notes`.
+/// Carries out a plan over its inputs. Archives are of type `L` for addresses, and of type `A` otherwise. Notes of the
+/// command are added to `notes`.
 pub fn execute_plan<
     A: Archive + Drop,
     L: Archive + Drop,

@@ -1,4 +1,4 @@
-//! The plans that write no OUT, over their inputs: archives are read whole, or by their indexes.
+//! The plans that write no OUT, over their inputs: archives are read to their ends, or by their indexes.
 
 ghost use Rattle.std.specs.Prelude.{◌≡◌, ◌<◌, IfErr, OnOk, length, true};
 ghost use Rattle.command_common.specs.Ends.{EndsReport};
@@ -27,7 +27,7 @@ use command_queries::{answer_name, run_find, run_list};
 use memory::{Heap, NoMemory};
 use uuid::Uuid;
 
-/// Refuses the first index that has no archive, or the first archive that has no index.
+/// Refuses the first index without an archive, or the first archive without an index.
 pub fn check_pairs(archives: usize, indexes: usize) -> Result<(), CommandFault>
     ensures same { OnOk result (indexes ≡ archives) }
     ensures other { IfErr result (IsAlone archives indexes) }
@@ -41,7 +41,7 @@ pub fn check_pairs(archives: usize, indexes: usize) -> Result<(), CommandFault>
     Ok(())
 }
 
-/// `find` over archives, which are read by these indexes, if there are some.
+/// `find` over archives, which are read by these indexes, if there are any.
 fn find<A: Archive + Drop, S: Source + Placed, P: Sink>(
     heap: Heap,
     archives: &mut [S],
@@ -83,7 +83,7 @@ fn list<S: Source + Placed, P: Sink>(
     run_list(heap, &mut Indexes { indexes, archives }, report)
 }
 
-/// Adds a note that a symbol has this name with a `_` before it, if that is so.
+/// Adds a note that a symbol has this name with a `_` before it, if `is_underscored`.
 fn note_underscored(
     heap: Heap,
     notes: &mut Vec<Note, Heap>,
@@ -99,7 +99,7 @@ fn note_underscored(
     Ok(())
 }
 
-/// `name` over archives: a row for each symbol of this exact name. Where there is none, and a symbol has the name with
+/// `name` over archives: a row for each symbol with exactly this name. If there is none, and a symbol has the name with
 /// a `_` before it, a note is added.
 fn name<S: Source, P: Sink>(
     heap: Heap,
@@ -122,7 +122,7 @@ fn name<S: Source, P: Sink>(
     write_report(answer.status, &answer.text, report)
 }
 
-/// `name` over archives that are asked together.
+/// `name` over the join of archives.
 fn name_in<S: Source, P: Sink>(
     heap: Heap,
     archives: &mut [S],
@@ -140,7 +140,7 @@ fn name_in<S: Source, P: Sink>(
     name(heap, archive, others, sought, notes, report)
 }
 
-/// `symbolicate` over archives, which are read by these indexes, if there are some.
+/// `symbolicate` over archives, which are read by these indexes, if there are any.
 fn symbolicate<A: Archive + Drop, S: Source + Placed, P: Sink>(
     heap: Heap,
     archives: &mut [S],
@@ -171,7 +171,7 @@ fn symbolicate<A: Archive + Drop, S: Source + Placed, P: Sink>(
     run_symbolicate::<A, _, _>(heap, evidence, key, load, lines, slices, addresses, report)
 }
 
-/// `frames` over archives, which are read by these indexes, if there are some.
+/// `frames` over archives, which are read by these indexes, if there are any.
 fn frames<A: Archive + Drop, S: Source + Placed, P: Sink>(
     heap: Heap,
     lines: bool,
@@ -198,8 +198,8 @@ fn frames<A: Archive + Drop, S: Source + Placed, P: Sink>(
     run_frames::<A, _, _, _>(heap, lines, slices, crash, evidence, report)
 }
 
-/// Carries out a plan that writes no OUT over its inputs. An archive of the type `L` is asked for addresses, and one of
-/// `A` for all else. What the command notes is added to `notes`.
+/// Carries out a plan that writes no OUT over its inputs. Archives are of type `L` for addresses, and of type `A`
+/// otherwise. Notes of the command are added to `notes`.
 pub fn answer<A: Archive + Drop, L: Archive + Drop, S: Source + Placed + Opens, P: Sink>(
     heap: Heap,
     plan: &Plan,

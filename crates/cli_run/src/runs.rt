@@ -18,9 +18,9 @@ use cli_messages::{Seen, end, end_with_line_fault, refuse_words};
 use std::io::{self, BufReader, ErrorKind};
 use std::rt::Files;
 
-/// Carries out what the words of the command line ask for over these files, and gives the exit status. The report, help
-/// and the version go to `report`; what it notes goes to `errors`, a line each, or why it failed, in one line, and what
-/// helps a person in a second one.
+/// Carries out the words of the command line over these files, and returns the exit status. The report, help and the
+/// version are written to `report`. To `errors` are written the notes, one line each; or why the command failed, in one
+/// line, and a hint for a person in a second one.
 pub fn run<'f, F: Files, P: Sink, E: Sink>(
     words: io::Result<Vec<String>>,
     files: &mut SystemFiles<'f, F>,

@@ -11,7 +11,7 @@ use cli_files::{Disk, LazyInput, Unopened};
 use cli_messages::input_at;
 use command_common::{CommandFault, InputName, Status, Why};
 
-/// Why the input of this name was not opened, if it was not.
+/// Why the input with this name was not opened, if it was not.
 fn unopened_at<D: Disk>(inputs: &Inputs<LazyInput<'_, D>>, name: InputName) -> Option<Unopened>
     ensures { result ≡ unopened_of told (input_at (inputs_view inputs.now) name) }
 {
@@ -19,7 +19,7 @@ fn unopened_at<D: Disk>(inputs: &Inputs<LazyInput<'_, D>>, name: InputName) -> O
 }
 
 /// The fault of a command that is refused for this input: `CannotOpen` or `OutOfMemory` if it was not opened for this
-/// reason, and else as the command reported it.
+/// reason, otherwise the command's own fault.
 fn fault_at(unopened: Option<Unopened>, name: InputName, why: Why) -> CommandFault
     ensures { result ≡ fault_at unopened name why }
 {
@@ -30,8 +30,8 @@ fn fault_at(unopened: Option<Unopened>, name: InputName, why: Why) -> CommandFau
     }
 }
 
-/// How a command ended; if the input that it refused could not be opened, the fault is `CannotOpen` or `OutOfMemory`
-/// instead.
+/// The result of a command; if the input that it refused could not be opened, the fault is `CannotOpen` or
+/// `OutOfMemory` instead.
 pub fn with_opening_fault<D: Disk>(
     inputs: &Inputs<LazyInput<'_, D>>,
     ended: Result<Status, CommandFault>,

@@ -25,7 +25,7 @@ use command_write::{
 use index_build::run_index;
 use memory::Heap;
 
-/// `extract` over archives, which are read by these indexes, if there are some.
+/// `extract` over archives, which are read by these indexes, if there are any.
 pub fn extract<A: Archive + Drop, S: Source + Placed, T: Target, P: Sink>(
     heap: Heap,
     archives: &mut [S],
@@ -95,7 +95,7 @@ pub fn summary<S: Source + Placed, T: Target, P: Sink>(
     run_summary(heap, &mut Indexes { indexes, archives }, out, report)
 }
 
-/// Carries out a plan that writes OUT from one archive. What the command notes is added to `notes`.
+/// Carries out a plan that writes OUT from one archive. Notes of the command are added to `notes`.
 pub fn write<S: Source + Placed + Opens, T: Target, P: Sink>(
     heap: Heap,
     plan: &Plan,

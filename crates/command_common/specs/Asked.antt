@@ -1,4 +1,4 @@
--- The question of a command to its inputs, and the text that it makes of the answer.
+-- The question of a command to its inputs, and the text of the answer.
 use Rattle.std.specs.Prelude.{◌≡◌, ℕ, List, [], ◌∷◌}
 use Rattle.archive_core.specs.Summary.{Entries}
 use Rattle.archive_core.specs.declared.find.FindRow.{FindRow}
@@ -10,19 +10,18 @@ use Rattle.command_common.specs.declared.faults.InputName.{InputName}
 use Rattle.command_common.specs.declared.faults.Status.{Status}
 use Rattle.command_common.specs.declared.faults.Why.{Why}
 
--- What is asked of inputs: the values that accepted inputs have, which input is refused, and why, and that no reader
--- fails.
+-- A question to inputs: the values that accepted inputs have, which input is refused and why, and that no reader fails.
 pub record Asked (T : Type 0) : Type 1 where
   pub Has : T → Type 0
   pub Refuses : InputName → Why → Type 0
   pub Unfailed : Type 0
 
--- nothing is asked of no inputs; of others, this of the first and the rest
+-- without inputs nothing is accepted or refused; otherwise the question to the first input and the rest
 abbrev pub of_first : {X T : Type 0} → (X → List X → Asked T) → List X → Asked T
 of_first asked [] = record { Has = λ value. ⊥; Refuses = λ at why. ⊥; Unfailed = ⊥ }
 of_first asked (x ∷ xs) = asked x xs
 
--- Inputs have these rows; this is the status of the rows, and these are their lines.
+-- Inputs have these rows; `status` is the status of the rows, and `text` has their lines.
 pub record PrintsRows (Have : List FindRow → Type 0) (lines : List FindRow → List ℕ) (status : Status) (text : List ℕ)
     : Type 0 where
   pub rows : List FindRow
@@ -30,7 +29,7 @@ pub record PrintsRows (Have : List FindRow → Type 0) (lines : List FindRow →
   pub status_is : status ≡ found_status rows
   pub text_is : text ≡ lines rows
 
--- the command that prints these lines of the rows that it asks for
+-- the command that prints these lines for the rows that it asks for
 abbrev pub prints_rows : (List FindRow → List ℕ) → Asked (List FindRow) → Query
 prints_rows lines asked = record {
   Makes = PrintsRows asked.Has lines;
@@ -38,7 +37,7 @@ prints_rows lines asked = record {
   Unfailed = asked.Unfailed;
 }
 
--- Inputs have this summary; these are its text, and the line with its sizes.
+-- Inputs have this summary; `text` is its text, and `told` the line with its sizes.
 pub record WritesSummary (Have : Entries → Type 0) (text told : List ℕ) : Type 0 where
   pub summary : Entries
   pub have : Have summary

@@ -1,4 +1,4 @@
--- How a command ends.
+-- The results of commands.
 use Rattle.std.specs.Prelude.{◌≡◌, ℕ, List, [], length, Result, Ok, Err, ◌⊎◌}
 use Rattle.std.specs.Io.KnownBytes.{Appends}
 use Rattle.byte_device.specs.Devices.{FailedIn}
@@ -12,14 +12,14 @@ use Rattle.command_common.specs.declared.faults.Status.{Status}
 use Rattle.command_common.specs.declared.faults.Why.{Why}
 use Rattle.command_common.specs.Outputs.{Out, Writer, IsKept, PublishesNothing, Takes, Publishes, Reports, report_of}
 
--- A command that writes OUT, with its inputs: the text of OUT and that of the report that accepted inputs make, which
--- input is refused, and why, and that no reader fails.
+-- A command that writes OUT, with its inputs: the text of OUT and of the report for accepted inputs, which input is
+-- refused and why, and that no reader fails.
 pub record Command : Type 1 where
   pub Makes : List ℕ → List ℕ → Type 0
   pub Refuses : InputName → Why → Type 0
   pub Unfailed : Type 0
 
--- These are the text of the content that inputs make, and the report of their lines with the sizes.
+-- `text` is the text of the content that inputs make; `told` is the report: their lines, and the sizes.
 pub record MakesArchive (Makes : Operations → List ℕ → Type 0) (text told : List ℕ) : Type 0 where
   pub content : Operations
   pub lines : List ℕ
@@ -27,12 +27,12 @@ pub record MakesArchive (Makes : Operations → List ℕ → Type 0) (text told 
   pub text_is : text ≡ written content
   pub told_is : told ≡ report_of content lines
 
--- what two commands make is the same: one OUT and one report
+-- two commands make the same: one OUT and one report
 abbrev pub MakeOne : (List ℕ → List ℕ → Type 0) → (List ℕ → List ℕ → Type 0) → Type 0
 MakeOne Makes Others = (text told other other_told : List ℕ) → Makes text told → Others other other_told
     → (text ≡ other) × (told ≡ other_told)
 
--- The inputs are accepted, and what they make is published.
+-- The inputs are accepted, and the texts that they make are published and reported.
 pub record Carries (Makes : List ℕ → List ℕ → Type 0) (out : Out) (report : Writer)
     (result : Result Status CommandFault) : Type 0 where
   pub text : List ℕ
@@ -40,9 +40,9 @@ pub record Carries (Makes : List ℕ → List ℕ → Type 0) (out : Out) (repor
   pub makes : Makes text told
   pub published : Publishes out report text told result
 
--- How a command ends. An input is refused, and OUT is kept; or the inputs are accepted, and what they make is published
--- and told, or up to where a writer failed. Where OUT failed or memory runs out nothing is published. Where no input is
--- refused, no reader fails.
+-- The result of a command. An input is refused, and OUT is kept; or the inputs are accepted, OUT is published and the
+-- report written, or writing stopped where a writer failed. If OUT failed or memory ran out, nothing is published. If
+-- no input is refused, no reader fails.
 abbrev pub Ends : Command → Out → Writer → Result Status CommandFault → Type 0
 Ends command out report (Ok status) = command.Unfailed × Carries command.Makes out report (Ok status)
 Ends command out report (Err (Input name why)) = command.Refuses name why × IsKept out × Takes report []
@@ -53,16 +53,16 @@ Ends command out report (Err OutOfMemory) =
 
 -- ---- commands that write while they read
 
--- A command that writes OUT's draft while it still reads its inputs: the text of OUT and that of the report that
--- accepted inputs make, what is true of its inputs and of the draft where this fault stopped it before its text was
--- whole, and that no reader fails.
+-- A command that writes OUT's draft while it still reads its inputs: the text of OUT and of the report for accepted
+-- inputs; the facts about its inputs and the draft if a fault stopped it before the text was complete; and that no
+-- reader fails.
 pub record Streamed : Type 1 where
   pub Makes : List ℕ → List ℕ → Type 0
   pub Stops : CommandFault → Type 0
   pub Unfailed : Type 0
 
--- It was stopped with this fault. OUT's draft has some bytes, as many as are told where it failed; nothing is
--- published, and nothing was reported.
+-- The command was stopped by this fault. OUT's draft has some bytes, whose number is reported if the draft failed;
+-- nothing is published, and nothing was reported.
 pub record IsStopped (command : Streamed) (out : Out) (report : Writer) (fault : CommandFault) : Type 0 where
   pub stops : command.Stops fault
   pub bytes : List ℕ
@@ -71,8 +71,8 @@ pub record IsStopped (command : Streamed) (out : Out) (report : Writer) (fault :
   pub nothing_published : PublishesNothing out
   pub unreported : Takes report []
 
--- How a command ends that writes while it reads. It was stopped; or its inputs are accepted, and what they make is
--- published. An input that is refused stops it, and a report that fails does not.
+-- The result of a command that writes while it reads. It was stopped; or its inputs are accepted, and the texts that
+-- they make are published and reported. A refused input stops it, and a report that fails does not.
 abbrev pub EndsStreamed : Streamed → Out → Writer → Result Status CommandFault → Type 0
 EndsStreamed command out report (Ok status) = command.Unfailed × Carries command.Makes out report (Ok status)
 EndsStreamed command out report (Err (Input name why)) = IsStopped command out report (Input name why)
@@ -83,15 +83,15 @@ EndsStreamed command out report (Err (Report n)) =
 EndsStreamed command out report (Err OutOfMemory) =
     IsStopped command out report OutOfMemory ⊎ (command.Unfailed × Carries command.Makes out report (Err OutOfMemory))
 
--- Of the text that accepted inputs make, if all their bytes are known, the draft has exactly the first n bytes, and
--- fewer than all.
+-- If all bytes of the inputs are known, the draft has exactly the first n bytes of the text for accepted inputs, and
+-- not all of them.
 abbrev pub HasFirst : Command → Type 0 → Writer → ℕ → Type 0
 HasFirst command Known draft n =
     Known → (text told : List ℕ) → command.Makes text told → WritesFirst draft.old draft.new text n
 
--- What stops a command that writes all the while, the bytes of whose inputs are known under this condition: an input
--- that is refused; the draft, which failed; or a lack of memory, where no reader failed. Whichever it is, the draft has
--- no more than a beginning of what accepted inputs make.
+-- The faults that stop a command that writes throughout, if the bytes of its inputs are known under `Known`: a refused
+-- input; a failure of the draft; or lack of memory, in which case no reader failed. In each case the draft has at most
+-- a beginning of the text for accepted inputs.
 abbrev pub StopsAmidst : Command → Type 0 → Writer → CommandFault → Type 0
 StopsAmidst command Known draft (Input name why) =
     command.Refuses name why × (draft.failures_new ≡ draft.failures_old) × ((n : ℕ) × HasFirst command Known draft n)
@@ -101,12 +101,12 @@ StopsAmidst command Known draft (Report n) = ⊥
 StopsAmidst command Known draft OutOfMemory =
     command.Unfailed × (draft.failures_new ≡ draft.failures_old) × ((n : ℕ) × HasFirst command Known draft n)
 
--- What the draft took where a command was stopped with this fault: some bytes, as many as are told where it failed.
+-- The bytes in the draft if this fault stopped a command: some bytes, whose number is reported if the draft failed.
 abbrev pub HasTaken : Writer → CommandFault → Type 0
 HasTaken draft fault =
     (bytes : List ℕ) × Appends draft.old draft.new bytes × ((n : ℕ) → fault ≡ Output n → n ≡ length bytes)
 
--- such a command, as one of those
+-- such a command, as a `Streamed`
 abbrev pub writes_amidst : Command → Type 0 → Writer → Streamed
 writes_amidst command Known draft = record {
   Makes = command.Makes;
@@ -114,13 +114,13 @@ writes_amidst command Known draft = record {
   Unfailed = command.Unfailed;
 }
 
--- How such a command ends.
+-- The result of such a command.
 abbrev pub EndsAsItComes : Command → Type 0 → Out → Writer → Result Status CommandFault → Type 0
 EndsAsItComes command Known out report result =
     EndsStreamed (writes_amidst command Known out.draft) out report result
 
--- What stops a command that reads what is after its first input before that one: the same; or memory was wanted to
--- test the first input, where this holds, and nothing was written.
+-- The faults that stop a command that reads its other inputs before the first one: the same; or memory ran out in the
+-- test of the first input, `Wants` holds, and nothing was written.
 abbrev pub StopsInTurn : Command → Type 0 → Type 0 → Writer → CommandFault → Type 0
 StopsInTurn command Wants Known draft (Input name why) = StopsAmidst command Known draft (Input name why)
 StopsInTurn command Wants Known draft (Output n) = StopsAmidst command Known draft (Output n)
@@ -128,7 +128,7 @@ StopsInTurn command Wants Known draft (Report n) = ⊥
 StopsInTurn command Wants Known draft OutOfMemory =
     StopsAmidst command Known draft OutOfMemory ⊎ (Wants × Takes draft [])
 
--- such a command, as one of those
+-- such a command, as a `Streamed`
 abbrev pub writes_in_turn : Command → Type 0 → Type 0 → Writer → Streamed
 writes_in_turn command Wants Known draft = record {
   Makes = command.Makes;
@@ -136,14 +136,14 @@ writes_in_turn command Wants Known draft = record {
   Unfailed = command.Unfailed;
 }
 
--- A command that only reports, with its input: the status and the text that an accepted input makes, whether it is
--- refused, and why, and that its reader does not fail.
+-- A command that only reports, with its input: the status and the text for an accepted input, whether it is refused and
+-- why, and that its reader does not fail.
 pub record Query : Type 1 where
   pub Makes : Status → List ℕ → Type 0
   pub Refuses : InputName → Why → Type 0
   pub Unfailed : Type 0
 
--- The input is accepted, and what it makes is reported.
+-- The input is accepted, and its text is reported.
 pub record CarriesReport (Makes : Status → List ℕ → Type 0) (report : Writer)
     (result : Result Status CommandFault) : Type 0 where
   pub status : Status
@@ -151,9 +151,9 @@ pub record CarriesReport (Makes : Status → List ℕ → Type 0) (report : Writ
   pub makes : Makes status text
   pub reported : Reports report status text result
 
--- How a command ends that only reports. Its input is refused, and nothing is written; or it is accepted, and what it
--- makes is reported, wholly or up to where the report failed. Where memory runs out nothing is written. Where it is not
--- refused, its reader does not fail.
+-- The result of a command that only reports. Its input is refused, and nothing is written; or it is accepted, and its
+-- text is reported, completely or up to where the report failed. If memory runs out, nothing is written. If the input
+-- is not refused, its reader does not fail.
 abbrev pub EndsReport : Query → Writer → Result Status CommandFault → Type 0
 EndsReport query report (Ok status) = query.Unfailed × CarriesReport query.Makes report (Ok status)
 EndsReport query report (Err (Input name why)) = query.Refuses name why × Takes report []

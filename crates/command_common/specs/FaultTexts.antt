@@ -18,7 +18,7 @@ use Rattle.command_common.specs.declared.faults.CommandFault.TheVariants.{Input,
 use Rattle.command_common.specs.declared.failures.Failure.{Failure}
 use Rattle.command_common.specs.declared.failures.Failure.TheVariants.{Command, CannotCreate, CannotReplace}
 
--- an input by its kind, with its number where there may be several
+-- an input by its kind, with its number if there may be several
 unfoldable pub name_text : InputName → List ℕ
 name_text (Archive number) = codes "archive " ++ decimal number
 name_text (File number) = codes "file " ++ decimal number
@@ -28,7 +28,7 @@ name_text ScriptInput = codes "script"
 name_text Frames = codes "frames"
 name_text (Index number) = codes "index " ++ decimal number
 
--- what is wrong with an input
+-- the fault of an input
 unfoldable pub why_text : Why → List ℕ
 why_text CannotOpen = codes "cannot open"
 why_text Device = codes "Device"
@@ -46,11 +46,11 @@ why_text (NoLines entry) = codes "NoLines at entry " ++ decimal entry
 why_text NoArchive = codes "NoArchive"
 why_text NoIndex = codes "NoIndex"
 
--- where a device failed: the number of bytes that it had taken
+-- a failed device: the number of bytes that it had accepted
 abbrev pub failed_after : ℕ → List ℕ
 failed_after written = codes "failed after " ++ decimal written ++ codes " bytes"
 
--- the place and its fault
+-- the input or device, and its fault
 unfoldable pub command_fault_text : CommandFault → List ℕ
 command_fault_text (Input name why) = name_text name ++ codes ": " ++ why_text why
 command_fault_text (Output written) = codes "output: " ++ failed_after written

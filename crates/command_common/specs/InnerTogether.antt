@@ -6,7 +6,7 @@ use Rattle.archive_core.specs.Part.{part}
 use Rattle.command_common.specs.Archives.{merged}
 use Rattle.command_common.specs.Inputs.{Reader, HoldsArchive}
 
--- These archives are the texts of contents, and the parts of these that are picked are joined to the content now.
+-- The archives are the texts of contents; `new` is the join of `old` with the selected parts of these.
 pub record HasJoinedParts {R : Type 0} (archives : List (Reader R)) (picks : List ℕ → Bool) (old new : Operations)
     : Type 0 where
   pub contents : List Operations

@@ -1,4 +1,4 @@
--- The inputs of a command: their content, which are refused, and why.
+-- The inputs of a command: their content, and which are refused and why.
 use Rattle.std.specs.Prelude.{◌≡◌, ◌≢◌, ℕ, ◌+◌, Bool, List, map, take, drop, zip, Option, Some}
 use Rattle.std.specs.Prelude.{IfSome, Result, Ok, Err, slice_get, ◌⊎◌}
 use Rattle.std.specs.List.{AllByRecursion}
@@ -34,33 +34,33 @@ use Rattle.command_common.specs.declared.faults.Why.TheVariants.{CannotOpen as N
 use Rattle.command_common.specs.declared.faults.Why.TheVariants.{Index as IndexFaulty, Damaged, NoArchive, NoIndex}
 use Rattle.command_common.specs.declared.faults.Why.TheVariants.{NoLines, Stale}
 
--- An input in a call, before it and after it. The functions tell what it has left, where that is known, and how often
--- it has failed.
+-- An input before and after a call. The functions are the bytes that it has left, if known, and the number of its
+-- failures.
 pub record Reader (S : Type 0) : Type 0 where
   pub left : S → Option (List ℕ)
   pub failures : S → ℕ
   pub old : S
   pub new : S
 
--- the input between these two states
+-- the input with these two states
 abbrev pub reader : {S : Type 0} → (S → Option (List ℕ)) → (S → ℕ) → S → S
     → Reader S
 reader left failures old new = record { left = left; failures = failures; old = old; new = new }
 
--- the inputs of a list, each between its two states
+-- the inputs of a list, each with its two states
 abbrev pub readers : {S : Type 0} → (S → Option (List ℕ)) → (S → ℕ)
     → List S → List S → List (Reader S)
 readers left failures old new = map (λ states. reader left failures states.0 states.1) (zip old new)
 
--- This is true of the input's bytes, where they are known.
+-- The input's bytes, if known, satisfy `IsTrue`.
 abbrev pub Gives : {S : Type 0} → Reader S → (List ℕ → Type 0) → Type 0
 Gives input IsTrue = IfSome (input.left input.old) IsTrue
 
--- The input holds these bytes, where its own are known.
+-- The input has these bytes, if its own are known.
 abbrev pub Holds : {S : Type 0} → Reader S → List ℕ → Type 0
 Holds input bytes = Gives input (λ text. text ≡ bytes)
 
--- The input is an archive's text that gives this content, where its bytes are known.
+-- The input is an archive's text with this content, if its bytes are known.
 abbrev pub HoldsArchive : {S : Type 0} → Reader S → Operations → Type 0
 HoldsArchive input o = Gives input (IsArchiveOf o)
 
@@ -68,45 +68,44 @@ HoldsArchive input o = Gives input (IsArchiveOf o)
 abbrev pub Unfailed : {S : Type 0} → Reader S → Type 0
 Unfailed input = input.failures input.new ≡ input.failures input.old
 
--- None of these failed.
+-- None of these inputs failed.
 abbrev pub EachUnfailed : {S : Type 0} → List (Reader S) → Type 0
 EachUnfailed inputs = AllByRecursion Unfailed inputs
 
--- The input is as it was.
+-- The input is unchanged.
 abbrev pub IsUntouched : {S : Type 0} → Reader S → Type 0
 IsUntouched input = input.new ≡ input.old
 
--- Each of these inputs is as it was.
+-- Each of these inputs is unchanged.
 abbrev pub EachUntouched : {S : Type 0} → List (Reader S) → Type 0
 EachUntouched inputs = AllByRecursion IsUntouched inputs
 
--- why the text of such a file is not read: reading the whole of it is refused for this fault, which is not a lack of
--- memory
+-- why a text of this kind is refused: the fault of reading all of it, which is not lack of memory
 abbrev pub IsTextRefused : {S : Type 0} → TextKind → Reader S → Why → Type 0
 IsTextRefused {S = S} kind input why =
     (fault : RecordFault) × (why ≡ Record fault) × (fault.kind ≢ RecordOutOfMemory)
     × ReadsWhole {T = Meaning kind} kind (λ meaning. meaning) input.left input.failures input.old input.new (Err fault)
 
--- why an archive is not read
+-- why an archive is refused
 abbrev pub IsArchiveRefused : {S : Type 0} → Reader S → Why → Type 0
 IsArchiveRefused input why = IsTextRefused ArchiveFile input why
 
--- why an operations file is not applied
+-- why an operations file is refused
 abbrev pub IsOpsRefused : {S : Type 0} → Reader S → Why → Type 0
 IsOpsRefused input why = IsTextRefused OperationsFile input why
 
--- why nothing is compared with a summary
+-- why a summary is refused
 abbrev pub IsSummaryRefused : {S : Type 0} → Reader S → Why → Type 0
 IsSummaryRefused input why = IsTextRefused SummaryFile input why
 
--- why a file is not taken: its reader failed, or it did not and its bytes have this fault
+-- why a file is refused: its reader failed, or it did not and its bytes have this fault
 abbrev pub IsFileRefused : {S : Type 0} → Reader S → Why → Type 0
 IsFileRefused input why =
     ((why ≡ CannotRead) × FailedIn (input.failures input.old) (input.failures input.new))
     ⊎ ((fault : TakeFault) × (why ≡ Take fault) × (fault ≢ TakeOutOfMemory) × Unfailed input
     × Gives input (λ bytes. IsTakeFault bytes fault))
 
--- why the bytes of an input are not read: its reader failed
+-- why the bytes of an input cannot be read: its reader failed
 abbrev pub IsUnread : {S : Type 0} → Reader S → Why → Type 0
 IsUnread input NotOpened = ⊥
 IsUnread input CannotRead = FailedIn (input.failures input.old) (input.failures input.new)
@@ -123,8 +122,7 @@ IsUnread input (NoLines _) = ⊥
 IsUnread input NoArchive = ⊥
 IsUnread input NoIndex = ⊥
 
--- why a script is not carried out: its bytes are not read, or they are and this is wrong with their first faulty
--- line, which has this flaw
+-- why a script is refused: its bytes cannot be read, or this is their first faulty line, with its flaw
 abbrev pub IsScriptRefused : {S : Type 0} → Reader S → Why → Type 0
 IsScriptRefused input NotOpened = ⊥
 IsScriptRefused input CannotRead = IsUnread input CannotRead
@@ -142,8 +140,7 @@ IsScriptRefused input (NoLines _) = ⊥
 IsScriptRefused input NoArchive = ⊥
 IsScriptRefused input NoIndex = ⊥
 
--- why nothing is told of frames: their bytes are not read, or they are and this is their first faulty line, with its
--- flaw
+-- why frames are refused: their bytes cannot be read, or this is their first faulty line, with its flaw
 abbrev pub IsFramesRefused : {S : Type 0} → Reader S → Why → Type 0
 IsFramesRefused input NotOpened = ⊥
 IsFramesRefused input CannotRead = IsUnread input CannotRead
@@ -165,37 +162,37 @@ IsFramesRefused input NoIndex = ⊥
 abbrev pub IsArchive : {S : Type 0} → Reader S → Type 0
 IsArchive input = (o : Operations) × IsContent o × HoldsArchive input o
 
--- The input is an archive's text, and this is the part of its content that is picked.
+-- The input is an archive's text, and `o` is the selected part of its content.
 pub record HoldsPart {S : Type 0} (input : Reader S) (picks : List ℕ → Bool) (o : Operations) : Type 0 where
   pub whole : Operations
   pub is_content : IsContent whole
   pub text : HoldsArchive input whole
   pub kept : o ≡ part whole picks
 
--- The input is an archive's text, and this is true of its content.
+-- The input is an archive's text whose content satisfies `IsTrue`.
 pub record HoldsContent {S : Type 0} (input : Reader S) (IsTrue : Operations → Type 0) : Type 0 where
   pub content : Operations
   pub is_content : IsContent content
   pub text : HoldsArchive input content
   pub is_true : IsTrue content
 
--- The input is a file whose slices are taken.
+-- The input is an accepted file.
 abbrev pub IsAccepted : {S : Type 0} → Reader S → Type 0
 IsAccepted input = (bytes : List ℕ) × IsAcceptedFile bytes × Holds input bytes
 
--- The input says frames.
+-- The input is a text of frames.
 abbrev pub IsFrames : {S : Type 0} → Reader S → Type 0
 IsFrames input = (listed : List Frame) × Gives input (λ bytes. frames_of bytes ≡ Ok listed)
 
--- archive `index` of the command line, counted from 0, is refused
+-- the archive with this number on the command line, counted from 0, is refused
 abbrev pub IsRefusedArchive : {S : Type 0} → ℕ → Reader S → InputName → Why → Type 0
 IsRefusedArchive index input at why = (at ≡ Archive index) × IsArchiveRefused input why
 
--- the file of this number is refused
+-- the file with this number is refused
 abbrev pub IsRefusedFile : {S : Type 0} → ℕ → Reader S → InputName → Why → Type 0
 IsRefusedFile index input at why = (at ≡ File index) × IsFileRefused input why
 
--- the bytes of the file of this number are refused
+-- the bytes of the file with this number are refused
 abbrev pub IsRefusedBytes : ℕ → List ℕ → InputName → Why → Type 0
 IsRefusedBytes index bytes at why =
     (at ≡ File index) × (fault : TakeFault) × (why ≡ Take fault) × (fault ≢ TakeOutOfMemory) × IsTakeFault bytes fault
@@ -216,8 +213,8 @@ IsRefusedScript input at why = (at ≡ Script) × IsScriptRefused input why
 abbrev pub IsRefusedFrames : {S : Type 0} → Reader S → InputName → Why → Type 0
 IsRefusedFrames input at why = (at ≡ Frames) × IsFramesRefused input why
 
--- One of these inputs, which have such numbers in the words, is refused: those before it are accepted, with no reader
--- of theirs failing, and those after it are untouched.
+-- One of these inputs, whose names are `asked_of` their numbers, is refused. Those before it are accepted and their
+-- readers do not fail; those after it are unchanged.
 pub record IsFirstRefused {S : Type 0} (asked_of : ℕ → InputName) (IsGood : Reader S → Type 0)
     (IsRefused : Reader S → Why → Type 0) (inputs : List (Reader S)) (at : InputName) (why : Why) : Type 0 where
   pub number : ℕ
@@ -229,15 +226,15 @@ pub record IsFirstRefused {S : Type 0} (asked_of : ℕ → InputName) (IsGood : 
   pub refused : IsRefused input why
   pub behind : EachUntouched (drop (number + 1) inputs)
 
--- The first input of a command is refused, and what is after it is untouched; or it is an archive's text, its reader
--- does not fail, and after it this one is refused.
+-- The first input of a command is refused, and the later ones are unchanged; or it is an archive's text, its reader
+-- does not fail, and a later input is refused.
 abbrev pub IsRefusedInOrder : {S : Type 0} → Reader S → Type 0 → (InputName → Why → Type 0) → InputName → Why → Type 0
 IsRefusedInOrder input Untouched IsRefusedLater at why =
     (IsRefusedArchive 0 input at why × Untouched)
     ⊎ (IsArchive input × Unfailed input × IsRefusedLater at why)
 
--- The same of a command that reads what is after its first input before that one, and tests that one to its end before
--- it tells of a refusal after it.
+-- The same for a command that reads its later inputs before the first one. If one of them is refused, it tests the
+-- first one to its end before it reports that.
 abbrev pub IsRefusedInTurn : {S : Type 0} → Reader S → (InputName → Why → Type 0) → InputName → Why → Type 0
 IsRefusedInTurn input IsRefusedLater at why =
     IsRefusedArchive 0 input at why ⊎ (IsArchive input × Unfailed input × IsRefusedLater at why)
@@ -246,32 +243,32 @@ IsRefusedInTurn input IsRefusedLater at why =
 abbrev pub IsWantedInTurn : {S : Type 0} → Reader S → (InputName → Why → Type 0) → Type 0
 IsWantedInTurn input IsRefusedLater = Unfailed input × ((at : InputName) × (why : Why) × IsRefusedLater at why)
 
--- The fault is that of an input, of which this holds, or a lack of memory, where this does.
+-- The fault is the refusal of an input, which satisfies `Refused`; or lack of memory, and `Unfailed` holds.
 abbrev pub IsRefusal : (InputName → Why → Type 0) → Type 0 → CommandFault → Type 0
 IsRefusal Refused Unfailed (Input name why) = Refused name why
 IsRefusal Refused Unfailed (Output _) = ⊥
 IsRefusal Refused Unfailed (Report _) = ⊥
 IsRefusal Refused Unfailed OutOfMemory = Unfailed
 
--- Inputs were read: this is true of what came of them, and no reader of theirs failed.
+-- Inputs were read: the first fact holds for the result, and none of their readers failed.
 pub record AreRead (IsTrue NoneFailed : Type 0) : Type 0 where
   pub is : IsTrue
   pub unfailed : NoneFailed
 
--- What comes of reading inputs: a value of which this is true; or a refusal, or a lack of memory. A reader fails at a
--- refusal alone.
+-- The result of reading inputs: a value that satisfies the relation, or a refusal, or lack of memory. A reader fails
+-- only at a refusal.
 abbrev pub ReadsInputs : {T : Type 0} → Result T CommandFault → (T → Type 0) → (InputName → Why → Type 0) → Type 0
     → Type 0
 ReadsInputs (Ok value) IsTrue IsRefused NoneFailed = AreRead (IsTrue value) NoneFailed
 ReadsInputs (Err fault) IsTrue IsRefused NoneFailed = IsRefusal IsRefused NoneFailed fault
 
--- what comes of reading one input, of which, and of the value, this is true
+-- the result of reading one input: a value that satisfies the relation with it, or a refusal
 abbrev pub ReadsInput : {S T : Type 0} → Reader S → Result T CommandFault → (Reader S → T → Type 0)
     → (Reader S → InputName → Why → Type 0) → Type 0
 ReadsInput input result IsTrue IsRefused = ReadsInputs result (IsTrue input) (IsRefused input) (Unfailed input)
 
--- What is told where this was told of an input after the first one: a refusal in turn, after the first input was
--- tested; or, if memory was wanted, that, and the first input is as it was.
+-- The fault that is reported after a fault of an input after the first one: the refusal in order, after the first input
+-- was tested; or lack of memory, with the first input unchanged.
 abbrev pub TellsInTurn : {S : Type 0} → Reader S → CommandFault → CommandFault → Type 0
 TellsInTurn input (Input at why) told =
     IsRefusal (IsRefusedInTurn input (λ name reason. (name ≡ at) × (reason ≡ why))) (Unfailed input) told
@@ -287,15 +284,15 @@ IsGiven input bytes = input.left input.old ≡ Some bytes
 abbrev pub IsKnown : {S : Type 0} → Reader S → Type 0
 IsKnown input = (bytes : List ℕ) × IsGiven input bytes
 
--- So it is with each of these inputs.
+-- The bytes of each of these inputs are known.
 abbrev pub EachKnown : {S : Type 0} → List (Reader S) → Type 0
 EachKnown inputs = AllByRecursion IsKnown inputs
 
--- The input's bytes are an archive's text that gives this content.
+-- The input's bytes are an archive's text with this content.
 abbrev pub IsGivenArchive : {S : Type 0} → Reader S → Operations → Type 0
 IsGivenArchive input o = (text : List ℕ) × IsArchiveOf o text × IsGiven input text
 
--- the reader failed, and nothing else is wrong
+-- the reader failed, and there is no other fault
 abbrev pub IsDeviceFault : Why → Type 0
 IsDeviceFault NotOpened = ⊥
 IsDeviceFault CannotRead = Unit {0}
@@ -312,7 +309,7 @@ IsDeviceFault (NoLines _) = ⊥
 IsDeviceFault NoArchive = ⊥
 IsDeviceFault NoIndex = ⊥
 
--- An archive's text is refused for its device alone.
+-- A valid archive's text is refused only if its device fails.
 abbrev pub RefusesDevicesAlone : {R : Type 0} → (Reader R → InputName → Why → Type 0) → Type 0
 RefusesDevicesAlone {R = R} Refuses = (archive : Reader R) (o : Operations) (name : InputName) (why : Why) → IsContent o
     → IsGivenArchive archive o → Refuses archive name why → IsDeviceFault why

@@ -1,4 +1,4 @@
--- The text of a note, which a command that succeeded adds about something that was asked for and is not there.
+-- The text of a note, which a command that succeeded adds about a requested record or name that is not there.
 use Rattle.std.specs.Prelude.{ℕ, List, ◌++◌, codes}
 use Rattle.text_values.specs.Words.{digest_text}
 use Rattle.text_reports.specs.Escapes.{escaped}

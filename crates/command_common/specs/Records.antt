@@ -1,4 +1,4 @@
--- Rows and summaries of archives, by their records.
+-- Rows and summaries of archives, from their records.
 use Rattle.std.specs.Prelude.{◌≡◌, ℕ, List}
 use Rattle.archive_core.specs.Content.{Operations}
 use Rattle.archive_core.specs.Find.{IsFinds}
@@ -12,7 +12,7 @@ use Rattle.command_common.specs.Asked.{Asked, PrintsRows}
 use Rattle.command_common.specs.Inputs.{HoldsContent, IsRefusedArchive, Reader, Unfailed}
 use Rattle.command_common.specs.declared.faults.Status.{Status}
 
--- the rows under a UUID that the join of the archives has
+-- the rows under a UUID in the join of the archives
 abbrev pub rows_found : {R S : Type 0} → Reader R → List (Reader S) → List ℕ → Asked (List FindRow)
 rows_found archive others uuid = record {
   Has = λ rows. HoldTogether archive others (λ o. IsFinds o uuid rows);
@@ -40,6 +40,6 @@ summary_held archive = record {
 abbrev pub TellsFound : Operations → List ℕ → Status → List ℕ → Type 0
 TellsFound o uuid = PrintsRows (IsFinds o uuid) find_lines
 
--- so it is with all its rows
+-- the same for all rows of a content
 abbrev pub TellsListed : Operations → Status → List ℕ → Type 0
 TellsListed o = PrintsRows (IsList o) list_lines

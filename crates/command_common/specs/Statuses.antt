@@ -6,8 +6,9 @@ use Rattle.command_common.specs.declared.faults.CommandFault.TheVariants.{OutOfM
 use Rattle.command_common.specs.declared.faults.Status.{Status}
 use Rattle.command_common.specs.declared.faults.Status.TheVariants.{Done, Partial, SomeRefused}
 
--- of a command that was carried out: everything was done or found; the answer is empty or has no single symbol; part of
--- it was refused, as the report says; or memory ran out, or an input was refused or a device failed
+-- the status for a command that was carried out: all was done or found; the answer is empty or has no single symbol; or
+-- part of it was refused, as the report says; and for a failure: memory ran out, or an input was refused or a device
+-- failed
 abbrev pub exit_status : Result Status Failure → ℕ
 exit_status (Ok Done) = 0
 exit_status (Ok Partial) = 1

@@ -12,19 +12,19 @@ use archive_records::Summary;
 use memory::Heap;
 use uuid::Uuid;
 
-/// Archives by what a command reads of them: their records, or their indexes. A value borrows the inputs; a ghost
-/// member over two values is about the inputs before a call and after it.
+/// Archives by the inputs that a command reads: their records, or their indexes. A value borrows the inputs; a ghost
+/// member over two values is about the inputs before and after a call.
 pub trait Evidence {
-    // The inputs are as many as a search asks for.
+    // There are as many inputs as a search needs.
     ghost can_find: { Self → Type 0 };
 
     // There is a first archive.
     ghost can_list: { Self → Type 0 };
 
-    // Both borrow the same inputs, as many.
+    // Both borrow the same inputs, and the same number of them.
     ghost keeps: { Self → Self → Type 0 };
 
-    // The rows under a UUID that the archives have together.
+    // The rows under a UUID in the join of all archives.
     ghost found: { Self → Self → List ℕ → Asked (List Row) };
 
     // All rows of the first archive.
@@ -33,7 +33,7 @@ pub trait Evidence {
     // The summary of the first archive.
     ghost summarized: { Self → Self → Asked Entries };
 
-    /// The rows under a UUID, of all archives as their join.
+    /// The rows under a UUID in the join of all archives.
     ///
     /// # Errors
     ///

@@ -1,4 +1,4 @@
-//! What the program says on standard error.
+//! The messages of the program on standard error.
 
 use crate::faults::CommandFault;
 use byte_device::CannotCreate;
@@ -6,15 +6,15 @@ use memory::NoMemory;
 use std::error::Error;
 use std::fmt;
 
-/// Why the program ends with a message, which is the text of what it holds after the program's name.
+/// Why the program fails. Its message is the program's name, followed by the text of the variant's value.
 #[derive(Clone, Copy, Debug, PartialEq, Eq)]
 pub enum Failure {
     /// A command was refused.
     Command(CommandFault),
     /// The output was not created.
     CannotCreate(CannotCreate),
-    /// The output was not published: its bytes could not be kept on the disk or renamed, or what is there is not to be
-    /// replaced.
+    /// The output was not published: its bytes could not be synced to the disk or renamed, or the file there must not
+    /// be replaced.
     CannotReplace,
 }
 

@@ -1,4 +1,4 @@
-//! How a command ends, and why one is refused, with the text of each fault.
+//! The results of commands, and the faults of refused ones, with the text of each fault.
 
 use archive_admission::TakeFault;
 use archive_records::RecordFault;
@@ -9,7 +9,7 @@ use std::fmt::{self, Display};
 use text_inputs::{FrameFlaw, ScriptFault, ScriptFlaw};
 use text_reports::Text;
 
-/// How a command that was not refused ends.
+/// The status of a command that was not refused.
 #[derive(Clone, Copy, Debug, PartialEq, Eq)]
 pub enum Status {
     /// Everything asked for was done or found: exit status 0.
@@ -20,12 +20,12 @@ pub enum Status {
     SomeRefused,
 }
 
-/// Which input of a command. Archives, files and indexes are counted from 0, in the order of the command line.
+/// The name of an input of a command. Archives, files and indexes are counted from 0, in the order of the command line.
 #[derive(Clone, Copy, Debug, PartialEq, Eq)]
 pub enum InputName {
     /// An archive that is read.
     Archive(u64),
-    /// A file whose slices are taken.
+    /// A file whose slices are admitted.
     File(u64),
     /// The operations file that is applied.
     Ops,
@@ -35,40 +35,40 @@ pub enum InputName {
     Script,
     /// The frames that are answered.
     Frames,
-    /// The index of an archive, with the number of that one.
+    /// The index of the archive with this number.
     Index(u64),
 }
 
-/// What is wrong with an input.
+/// The fault of an input.
 #[derive(Clone, Copy, Debug, PartialEq, Eq)]
 pub enum Why {
     /// It could not be opened.
     CannotOpen,
     /// Reading a file of slices, a script or frames failed.
     Device,
-    /// It is no text of an archive, of operations or of a summary, or reading it failed.
+    /// It is not the text of an archive, of operations or of a summary, or reading it failed.
     Record(RecordFault),
-    /// Its slices are not taken.
+    /// Its slices are not admitted.
     Take(TakeFault),
-    /// It is no script; the line is the first faulty one, counted from 1. Its flaw is not printed with it.
+    /// It is not a script; the line is the first faulty one, counted from 1. Its flaw is not printed with it.
     Script {
         fault: ScriptFault,
         line: u64,
         flaw: Option<ScriptFlaw>,
     },
-    /// It is no text of frames; the line is the first faulty one, counted from 1. Its flaw is not printed with it.
+    /// It is not a text of frames; the line is the first faulty one, counted from 1. Its flaw is not printed with it.
     BadFrame {
         line: u64,
         flaw: FrameFlaw,
     },
-    /// It is an archive of version 1, of which no index is made.
+    /// It is an archive of version 1, which cannot be indexed.
     OldArchive,
     /// A record of the archive, or its table in the index, would begin at byte 2^64 or later.
     TooLong,
-    /// It is no text of an index, or reading it failed.
+    /// It is not the text of an index, or reading it failed.
     Index(IndexFault),
-    /// The index is not of this archive. `None`: the archive has another length. `Some(n)`: there is no such record
-    /// where entry `n`, counted from 0, says.
+    /// The index is not of this archive. `None`: the archive has another length. `Some(n)`: the archive does not have
+    /// the record of entry `n`, counted from 0, at its offset.
     Stale(Option<u64>),
     /// It is an index whose table for this entry, counted from 0, was changed.
     Damaged(u64),
@@ -80,16 +80,16 @@ pub enum Why {
     NoIndex,
 }
 
-/// Why a command is refused.
+/// Why a command fails.
 #[derive(Clone, Copy, Debug, PartialEq, Eq)]
 pub enum CommandFault {
     /// An input is refused.
     Input(InputName, Why),
-    /// The output failed after it took this many bytes.
+    /// The output failed after it accepted this number of bytes.
     Output(u128),
-    /// Standard output failed after it took this many bytes of the report.
+    /// Standard output failed after it accepted this number of bytes of the report.
     Report(u128),
-    /// A growth was refused.
+    /// Memory ran out.
     OutOfMemory,
 }
 

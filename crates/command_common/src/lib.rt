@@ -1,15 +1,15 @@
-//! The code that all commands share: their inputs, the definitions for their contents, and how a command ends.
+//! The code that all commands share: their inputs, the definitions for their contents, and their results.
 //!
-//! A command reads its inputs, reports the first that is refused in the order of the command line, and writes OUT:
-//! while it reads its first input, or after it read all. OUT is published when it is whole; then the report is written.
+//! A command reads its inputs, reports the first refused one in the order of the command line, and writes OUT: while it
+//! reads its first input, or after it read all. OUT is published when it is complete; then the report is written.
 //!
-//! - `faults`: how a command ends, and why one is refused;
+//! - `faults`: the results of commands, and the faults of refused ones;
 //! - `failures`: the line printed on standard error if the program fails;
-//! - `notes`: what is noted of a command that succeeded;
-//! - `statuses`: how a search ends, and the exit status of what was carried out;
+//! - `notes`: the notes of a command that succeeded;
+//! - `statuses`: the status of a search, and the exit status of a command;
 //! - `publishing`: the end of each command;
-//! - `sources`: what one input holds, or its refusal;
-//! - `together`: archives of which parts are kept and joined, and questions that their join answers;
+//! - `sources`: the content of one input, or its refusal;
+//! - `together`: archives whose parts are kept and joined, and questions that their join answers;
 //! - `evidence`: [`Evidence`], by which a command answers, so that it is written once; `records`: the records of
 //!   archives as such.
 //!

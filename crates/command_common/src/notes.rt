@@ -1,4 +1,4 @@
-//! The notes of a command that succeeded: what it was asked for and is not there.
+//! The notes of a command that succeeded: requested records or names that are not there.
 
 use archive_core::{Digest, SliceKey};
 use memory::Heap;
@@ -6,14 +6,14 @@ use std::fmt;
 use text_reports::{Escaped, Text};
 use text_values::Spelled;
 
-/// What a command notes beside its report: it changes neither that nor the exit status.
+/// A note of a command, apart from its report: it changes neither the report nor the exit status.
 #[derive(Debug, Drop)]
 pub enum Note {
-    /// IN retires this slice of a file, so that it does not come in.
+    /// IN retires this slice of a file, so it is not admitted.
     Retired(SliceKey, Digest),
-    /// IN has no slice under this key with this digest, which are retired all the same.
+    /// IN has no slice with this key and digest; the retirement is added all the same.
     Missing(SliceKey, Digest),
-    /// No symbol has this name, and one has it with a `_` before it.
+    /// No symbol has this name, but one has it with a `_` before it.
     Underscored(Vec<u8, Heap>),
 }
 

@@ -1,4 +1,4 @@
-//! The end of each command: OUT, which is published, and the report after it.
+//! The end of each command: OUT is published, and then the report is written.
 ghost use Rattle.std.specs.Prelude.{◌≡◌, ◌++◌, [], ℕ, List, IfErr, OnErr, OnOk, Some, length, string_bytes};
 ghost use Rattle.archive_records.specs.Text.{summary_text, written};
 ghost use Rattle.byte_device.specs.Devices.{FailedIn};
@@ -14,7 +14,7 @@ use byte_device::{Failed, Output, Sink, Target, push_all};
 use memory::Heap;
 use text_reports::{summary_line, with_sizes};
 
-/// Publishes an output whose draft has taken this many bytes.
+/// Publishes an output whose draft has accepted this number of bytes.
 pub fn publish_output<T: Target>(
     out: &mut Output<T::Draft, T>,
     written: u128,

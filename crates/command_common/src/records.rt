@@ -1,4 +1,4 @@
-//! The records of archives, which are read whole.
+//! The records of archives, which are read to their ends.
 
 ghost use Rattle.std.specs.Prelude.{◌≡◌, ◌<◌, ◌∷◌, length};
 ghost use Rattle.std.specs.Borrow.{Array, LendsBoth, sem};
@@ -20,11 +20,11 @@ use uuid::Uuid;
 /// Archives in the order of the command line, each read to its end.
 #[derive(Drop)]
 pub struct Records<'a, S> {
-    /// One at least.
+    /// At least one.
     pub archives: &'a mut [S],
 }
 
-/// The first of some, and the rest.
+/// The first item, and the rest.
 pub fn first_and_rest<T>(items: &mut [T]) -> (&mut T, &mut [T])
     requires { 0 < length items.old }
     ensures parts { items.old ≡ result.0.now ∷ result.1.now }
@@ -34,7 +34,7 @@ pub fn first_and_rest<T>(items: &mut [T]) -> (&mut T, &mut [T])
     (&mut first[0], rest)
 }
 
-/// The rows under a UUID of the join of an archive and others.
+/// The rows under a UUID in the join of an archive and others.
 fn find_together<A: Archive + Drop, S: Source>(
     heap: Heap,
     archive: &mut S,
@@ -50,7 +50,7 @@ fn find_together<A: Archive + Drop, S: Source>(
     Ok(kept.find(uuid)?)
 }
 
-/// The rows under a UUID of the join of archives.
+/// The rows under a UUID in the join of archives.
 fn find_in<A: Archive + Drop, S: Source>(
     heap: Heap,
     archives: &mut [S],
@@ -65,7 +65,7 @@ fn find_in<A: Archive + Drop, S: Source>(
     find_together::<A, _>(heap, archive, others, uuid)
 }
 
-/// All rows of the first of archives.
+/// All rows of the first archive.
 fn list_first<S: Source>(heap: Heap, archives: &mut [S]) -> Result<Vec<FindRow, Heap>, CommandFault>
     requires { 0 < length archives.old }
     ensures { let asked = of_first (λ archive _. rows_listed archive)
@@ -78,7 +78,7 @@ fn list_first<S: Source>(heap: Heap, archives: &mut [S]) -> Result<Vec<FindRow, 
     }
 }
 
-/// The summary of the first of archives.
+/// The summary of the first archive.
 fn summarize_first<S: Source>(heap: Heap, archives: &mut [S]) -> Result<Summary, CommandFault>
     requires { 0 < length archives.old }
     ensures { let asked = of_first (λ archive _. summary_held archive)

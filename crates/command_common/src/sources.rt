@@ -31,7 +31,7 @@ use text_inputs::{
 };
 use text_values::line_at;
 
-/// The refusal of an input, whose text has this fault or whose reader failed.
+/// The refusal of an input whose text has this fault, or whose reader failed.
 pub fn refusal(at: InputName, fault: RecordFault) -> CommandFault
     ensures refused { IsRefusal (λ index why. (index ≡ at) × (why ≡ Record fault) × (fault.kind ≢ RecordOutOfMemory))
         (fault.kind ≡ RecordOutOfMemory) result }
@@ -42,7 +42,7 @@ pub fn refusal(at: InputName, fault: RecordFault) -> CommandFault
     }
 }
 
-/// What was read of an input, or the refusal of that input.
+/// The value read from an input, or the refusal of that input.
 macro_rules! or_refused {
     ($at:expr, $read:expr) => {
         match $read {
@@ -66,7 +66,7 @@ pub fn read_archive_input<A: Archive + Drop, R: Source>(
     or_refused!(at, read_archive(heap, input))
 }
 
-/// Reads archive `index` of the command line, counted from 0, to its end, and keeps nothing of it.
+/// Reads archive `index` of the command line, counted from 0, to its end, and keeps nothing.
 pub fn check_archive_input<R: Source>(
     heap: Heap,
     index: u64,
@@ -93,7 +93,7 @@ pub fn first_refusal<R: Source>(heap: Heap, input: &mut R, fault: CommandFault) 
     }
 }
 
-/// Reads archive `index` of the command line, counted from 0, and keeps the records that are picked.
+/// Reads archive `index` of the command line, counted from 0, and keeps the selected records.
 pub fn read_archive_part<A: Archive + Drop, S: Selects, R: Source>(
     heap: Heap,
     index: u64,
@@ -107,7 +107,7 @@ pub fn read_archive_part<A: Archive + Drop, S: Selects, R: Source>(
     or_refused!(at, read_part(heap, select, input))
 }
 
-/// Reads the archive that questions are put to, and answers these.
+/// Reads the archive to which questions are put, and answers them.
 pub fn answer_from_archive<A: Archive + Drop, Q: Questions + Drop, R: Source>(
     heap: Heap,
     questions: Q,
@@ -123,7 +123,7 @@ pub fn answer_from_archive<A: Archive + Drop, Q: Questions + Drop, R: Source>(
     or_refused!(at, answer_by_key::<A, Q, R>(heap, questions, input))
 }
 
-/// Reads the archive that is listed, and gives its rows.
+/// Reads the archive that is listed, and returns its rows.
 pub fn read_rows<R: Source>(heap: Heap, input: &mut R) -> Result<Vec<FindRow, Heap>, CommandFault>
     ensures { ReadsInput (reader R.left R.failures input.old input.new) result
         (λ input rows. HoldsContent input (λ o. IsList o rows.items)) (IsRefusedArchive 0) }
@@ -132,7 +132,7 @@ pub fn read_rows<R: Source>(heap: Heap, input: &mut R) -> Result<Vec<FindRow, He
     or_refused!(at, list_rows(heap, input))
 }
 
-/// Reads the archive that is summarized, and gives its summary.
+/// Reads the archive that is summarized, and returns its summary.
 pub fn summarize_archive<R: Source>(heap: Heap, input: &mut R) -> Result<Summary, CommandFault>
     ensures { ReadsInput (reader R.left R.failures input.old input.new) result
         (λ input entries. HoldsContent input (λ o. entries ≡ summary o)) (IsRefusedArchive 0) }
@@ -156,7 +156,7 @@ fn read_bytes<S: Source>(
     }
 }
 
-/// Reads file `index` whole.
+/// Reads all of file `index`.
 pub fn read_file<S: Source>(
     heap: Heap,
     index: u64,
@@ -168,7 +168,7 @@ pub fn read_file<S: Source>(
     read_bytes(heap, InputName::File(index), file)
 }
 
-/// Reads OPS, and returns its operations in their order.
+/// Reads OPS, and returns its operations in order.
 pub fn read_operations<S: Source>(
     heap: Heap,
     ops: &mut S,
@@ -189,7 +189,7 @@ pub fn read_summary_input<S: Source>(heap: Heap, summary: &mut S) -> Result<Summ
     or_refused!(at, read_summary(heap, summary))
 }
 
-/// Reads the script that is carried out, to its end, and then what it says.
+/// Reads the script to its end, and then parses it.
 pub fn read_script_input<S: Source>(heap: Heap, script: &mut S) -> Result<Script, CommandFault>
     ensures { ReadsInput (reader S.left S.failures script.old script.new) result
         (λ script listed. Gives script (λ bytes. script_of bytes ≡ Ok (listed.sites, acts listed.events.items)))
@@ -206,7 +206,7 @@ pub fn read_script_input<S: Source>(heap: Heap, script: &mut S) -> Result<Script
     }
 }
 
-/// Reads the frames of a crash, to their end, and then what they say.
+/// Reads the frames of a crash to their end, and then parses them.
 pub fn read_frames_input<S: Source>(
     heap: Heap,
     frames: &mut S,

@@ -1,4 +1,4 @@
-//! How a search ends, and the exit status of what was carried out.
+//! The status of a search, and the exit status of a command.
 
 ghost use Rattle.std.specs.Prelude.{◌≡◌};
 ghost use Rattle.command_common.specs.Found.{found_status};
@@ -6,7 +6,7 @@ ghost use Rattle.command_common.specs.Statuses.{exit_status};
 
 use crate::{CommandFault, Failure, Status};
 
-/// The exit status of a command that ended so: 0, 1, 2, or 4 if memory ran out.
+/// The exit status for this result: 0, 1, 2, or 4 if memory ran out.
 pub fn exit_status(ended: &Result<Status, Failure>) -> u8
     ensures { result ≡ exit_status ended.now }
 {

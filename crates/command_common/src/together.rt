@@ -1,4 +1,4 @@
-//! Archives of which parts are kept and joined, and questions that their join answers.
+//! Archives whose parts are kept and joined, and questions that their join answers.
 ghost use Rattle.std.specs.Prelude.{◌≡◌, [], ℕ, List, Contains, OnOk, IfSome, length, true};
 ghost use Rattle.archive_core.specs.Content.{Operations, joined};
 ghost use Rattle.archive_core.specs.Key.{key_bytes};
@@ -19,7 +19,7 @@ use byte_device::Source;
 use memory::{Heap, NoMemory};
 use uuid::Uuid;
 
-/// Joins what is picked of the archive with this number on the command line.
+/// Joins the selected records of the archive with this number on the command line.
 pub fn join_part<A: Archive + Drop, S: Selects, R: Source>(
     heap: Heap,
     kept: &mut A,
@@ -37,7 +37,7 @@ pub fn join_part<A: Archive + Drop, S: Selects, R: Source>(
     Ok(())
 }
 
-/// Joins what is picked of each of these archives, in their order. The first of them is archive 1 on the command line.
+/// Joins the selected records of each of these archives, in order. The first of them is archive 1 on the command line.
 fn join_parts<A: Archive + Drop, S: Selects, R: Source>(
     heap: &Heap,
     kept: &mut A,
@@ -53,8 +53,9 @@ fn join_parts<A: Archive + Drop, S: Selects, R: Source>(
     Ok(())
 }
 
-/// Reads the archives in the order of the command line, each to its end, and keeps the join of what is picked of each:
-/// under a prefix of a key, or the whole of one, it has what the join of the archives has.
+/// Reads the archives in the order of the command line, each to its end, and keeps the join of their selected records.
+/// Under each key, or prefix of a key, all of whose records are selected, it has the same records as the join of the
+/// archives.
 pub fn read_parts<A: Archive + Drop, S: Selects, R: Source>(
     heap: Heap,
     select: &S,
@@ -94,7 +95,7 @@ fn next_key<Q: Questions>(questions: &Q) -> Option<SliceKey>
     Some(key)
 }
 
-/// Answers all questions by an archive that answers under each of their keys.
+/// Answers all questions from an archive that answers under each of their keys.
 pub fn answer_all<A: Archive, Q: Questions>(questions: &mut Q, archive: &A) -> Result<(), NoMemory>
     ensures left { OnOk result (Q.left questions.new ≡ []) }
     ensures answered { OnOk result ((start : Q) (o : Operations)
@@ -108,8 +109,8 @@ pub fn answer_all<A: Archive, Q: Questions>(questions: &mut Q, archive: &A) -> R
     Ok(())
 }
 
-/// Answers questions by the join of the archives. Of one archive the slices under one key are held at a time; of
-/// several all records that are picked, which are those under the keys of the questions at least.
+/// Answers questions from the join of the archives. With one archive, the slices of one key are in memory at a time;
+/// with several, all selected records, which include those under the keys of the questions.
 pub fn answer_archives<A: Archive + Drop, Q: Questions + Drop, S: Selects, R: Source>(
     heap: Heap,
     questions: Q,

@@ -16,19 +16,19 @@ IsUnfailed device = device.failures device.new ≡ device.failures device.old
 abbrev pub HasFailed : {D : Type 0} → Stream D → Type 0
 HasFailed device = FailedIn (device.failures device.old) (device.failures device.new)
 
--- some bytes are asked for at the offset, and fewer are there
+-- some bytes are requested at the offset, and the device has fewer
 abbrev pub HasFewer : Option (List ℕ) → ℕ → ℕ → Type 0
 HasFewer whole at size = IfSome whole (λ all. (0 < size) × (length all < at + size))
 
--- So many bytes are at the offset, and this is their SHA-256.
+-- `size` bytes are at the offset, and `digest` is their SHA-256.
 pub record HaveDigest (whole : Option (List ℕ)) (at size : ℕ) (digest : List ℕ) : Type 0 where
   pub bytes : List ℕ
   pub long : length bytes ≡ size
   pub stands : Stands whole at bytes
   pub digest_is : digest ≡ sha256 bytes
 
--- What came of hashing so many bytes from an offset on: their SHA-256, or there are fewer; or the device failed. It
--- keeps its bytes.
+-- The result of hashing `size` bytes from an offset on: their SHA-256, or `None` if there are fewer; or the device
+-- failed. The device keeps its bytes.
 pub record HashesAt {P : Type 0} (device : Stream P) (at size : ℕ) (result : Result (Option (List ℕ)) Failed)
     : Type 0 where
   pub keeps : device.bytes device.new ≡ device.bytes device.old
@@ -42,7 +42,7 @@ pub record Gains {P W : Type 0} (device : Stream P) (sink : Stream W) (at : ℕ)
   pub stands : Stands (device.bytes device.old) at bytes
   pub gained : Appends (sink.bytes sink.old) (sink.bytes sink.new) bytes
 
--- The sink gained so many bytes, and this is their SHA-256.
+-- The sink gained `size` bytes, whose SHA-256 is `digest`.
 pub record IsCopied {P W : Type 0} (device : Stream P) (sink : Stream W) (at size : ℕ) (digest : List ℕ) : Type 0 where
   pub bytes : List ℕ
   pub gains : Gains device sink at bytes
@@ -50,14 +50,14 @@ pub record IsCopied {P W : Type 0} (device : Stream P) (sink : Stream W) (at siz
   pub digest_is : digest ≡ sha256 bytes
   pub unfailed : IsUnfailed device × IsUnfailed sink
 
--- why a copy of so many bytes stopped when this many were gained: the device has fewer, or it failed, or the sink did
+-- why a copy of `size` bytes stopped after `gained` bytes: the device has fewer, or it failed, or the sink did
 abbrev pub StopsFor : {P W : Type 0} → Stream P → Stream W → ℕ → ℕ → ℕ → CopyFault → Type 0
 StopsFor device sink at size gained Ended =
     HasFewer (device.bytes device.old) at size × IsUnfailed device × IsUnfailed sink
 StopsFor device sink at size gained Device = HasFailed device × IsUnfailed sink
 StopsFor device sink at size gained (Sink written) = (written ≡ gained) × IsUnfailed device × HasFailed sink
 
--- The copy stopped before the sink had so many bytes: it gained these.
+-- The copy stopped before the sink had `size` bytes: it gained these.
 pub record StopsCopy {P W : Type 0} (device : Stream P) (sink : Stream W) (at size : ℕ) (fault : CopyFault)
     : Type 0 where
   pub bytes : List ℕ
@@ -65,8 +65,8 @@ pub record StopsCopy {P W : Type 0} (device : Stream P) (sink : Stream W) (at si
   pub fewer : length bytes < size
   pub stops : StopsFor device sink at size (length bytes) fault
 
--- What came of copying so many bytes from an offset on into a sink: their SHA-256, or why they are not all there. The
--- device keeps its bytes.
+-- The result of copying `size` bytes from an offset on into a sink: their SHA-256, or the reason why the copy is
+-- incomplete. The device keeps its bytes.
 pub record CopiesAt {P W : Type 0} (device : Stream P) (sink : Stream W) (at size : ℕ)
     (result : Result (List ℕ) CopyFault) : Type 0 where
   pub keeps : device.bytes device.new ≡ device.bytes device.old

@@ -26,8 +26,8 @@ use Rattle.command_extract.specs.declared.place.Place.TheVariants.{Named, Kept}
 
 -- ---- by the entries
 
--- The indexes were read, and the entry is the one that is wanted. This is its archive, as it stood after that; no other
--- was touched.
+-- The indexes were read, and the entry is that of the wanted slice. `archive` is its archive after that; no other was
+-- read.
 pub record IsChosenFrom {I P : Type 0} (indexes : List (Reader I)) (archives : List (Reader P)) (key : SliceKey)
     (digest : Option Digest) (x : EntryAt) (archive : Reader P) : Type 0 where
   pub all : List (List (List ℕ))
@@ -38,7 +38,7 @@ pub record IsChosenFrom {I P : Type 0} (indexes : List (Reader I)) (archives : L
   pub are_later : AreLater archives later
   pub archive_is : IsOneOf later x.input archive
 
--- Its archive has this slice at its place, and this is its line.
+-- Its archive has this slice at the offset in its entry, and `told` is its line.
 pub record MakesEntry {I P : Type 0} (indexes : List (Reader I)) (archives : List (Reader P)) (key : SliceKey)
     (digest : Option Digest) (slice told : List ℕ) : Type 0 where
   pub x : EntryAt
@@ -55,7 +55,7 @@ pub record StopsEntry {I P : Type 0} (indexes : List (Reader I)) (archives : Lis
   pub from : IsChosenFrom indexes archives key digest x archive
   pub stops : StopsSlice archive x draft fault
 
--- The indexes were read, and no entry is wanted: this tells which answer.
+-- The indexes were read, and no entry is that of the wanted slice: `told` has the lines of those that answer.
 pub record LacksEntry {I P : Type 0} (indexes : List (Reader I)) (archives : List (Reader P)) (key : SliceKey)
     (digest : Option Digest) (told : List ℕ) : Type 0 where
   pub all : List (List (List ℕ))
@@ -66,15 +66,15 @@ pub record LacksEntry {I P : Type 0} (indexes : List (Reader I)) (archives : Lis
   pub rows_are : AllZip IsRowAt answering rows
   pub told_is : told ≡ find_lines rows
 
--- ---- by the slices, where of two that answer no entry says which comes first
+-- ---- by the slices, if two of them answer and no entry decides which comes first
 
--- what the indexes name under the key is joined to a content of which this is true, and entries are tied
+-- the slices that the indexes name under the key, joined, satisfy `IsTrue`, and entries are tied
 abbrev pub HoldTied : {I P : Type 0} → List (Reader I) → List (Reader P) → SliceKey → Held
 HoldTied indexes archives key IsTrue =
     (o : Operations) × (held : HoldTogether (key_bytes key ∷ []) indexes archives o) × AreTied (key_bytes key) held.all
     × IsTrue o
 
--- an index or the length of its archive is refused; or, where entries are tied, an archive whose slices are read
+-- an index or the length of its archive is refused; or, if entries are tied, an archive whose slices are read
 abbrev pub AreRefusedBefore : {I P : Type 0} → List (Reader I) → List (Reader P) → SliceKey → InputName → Why → Type 0
 AreRefusedBefore indexes archives key at why =
     IsFirstRefusedByIndex indexes archives at why
@@ -82,7 +82,7 @@ AreRefusedBefore indexes archives key at why =
 
 -- ---- the command
 
--- `extract`, over these archives. It is stopped before OUT is begun; or while the slice of an entry is sent.
+-- `extract` over these archives. It is stopped before OUT is created; or while the slice of an entry is sent.
 abbrev pub extract_at : {I P : Type 0} → List (Reader I) → List (Reader P) → SliceKey → Option Digest → Writer
     → Extraction
 extract_at indexes archives key digest draft = record {
@@ -99,9 +99,9 @@ extract_at indexes archives key digest draft = record {
       ⊎ ((digest ≡ None) × MakesNone (HoldTied indexes archives key) key None told);
 }
 
--- ---- what is chosen
+-- ---- the choice
 
--- The indexes were read, and this entry is the one that is wanted. The archives stood so after that.
+-- The indexes were read, and this entry is that of the wanted slice. `seen` are the archives after that.
 pub record IsNamedBy {I P : Type 0} (indexes : List (Reader I)) (whole : P → Option (List ℕ)) (failures : P → ℕ)
     (before seen : List P) (key : SliceKey) (digest : Option Digest) (named : NamedSlice) : Type 0 where
   pub all : List (List (List ℕ))
@@ -112,7 +112,7 @@ pub record IsNamedBy {I P : Type 0} (indexes : List (Reader I)) (whole : P → O
   pub chosen : IsChosen key digest all x
   pub names : Names x named
 
--- a slice is found, with this SHA-256 and so many bytes: in its archive by its entry, or among what was read
+-- a slice is found, with this SHA-256 and length: in its archive by its entry, or among the slices that were read
 abbrev pub IsFoundAt : {A I P : Type 0} → (A → Operations) → List (Reader I) → (P → Option (List ℕ)) → (P → ℕ) → List P
     → List P → SliceKey → Option Digest → Place A → Digest → ℕ → Type 0
 IsFoundAt content indexes whole failures before seen key digest (Named named) given size =

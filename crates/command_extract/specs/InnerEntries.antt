@@ -1,5 +1,5 @@
--- What the entries of indexes choose, and what is sent of it: definitions for private functions. No public contract
--- uses them.
+-- The choice by the entries of indexes, and the result of sending it: definitions for private functions. No public
+-- contract uses them.
 use Rattle.std.specs.Prelude.{◌≡◌, ℕ, List, Option, None, Some, Result, Ok, Err, slice_index_or, slice_set}
 use Rattle.std.specs.List.{AllZip}
 use Rattle.archive_core.specs.Key.{key_bytes}
@@ -21,7 +21,7 @@ use Rattle.command_extract.specs.Entries.{AreUnchosen, HoldsSlice, IsChosen, Sto
 use Rattle.command_extract.specs.declared.entries.EntryChoice.{EntryChoice}
 use Rattle.command_extract.specs.declared.entries.EntryChoice.TheVariants.{One, Undecided, Tied}
 
--- the choice is of the wanted slice, by its entry; or there is none, and these are the rows of those that answer; or
+-- the choice is the wanted slice, by its entry; or there is none, and these are the rows of those that answer; or
 -- entries that answer are tied
 abbrev pub IsEntryChoice : SliceKey → Option Digest → List (List (List ℕ)) → EntryChoice → Type 0
 IsEntryChoice key digest all (One named) = (x : EntryAt) × IsChosen key digest all x × Names x named
@@ -29,23 +29,23 @@ IsEntryChoice key digest all (Undecided rows) =
     (xs : List EntryAt) × AreUnchosen key digest all xs × AllZip IsRowAt xs rows.items
 IsEntryChoice key digest all Tied = (digest ≡ None) × AreTied (key_bytes key) all
 
--- why a record was not read which begins at this offset, when its device failed
+-- why the record at this offset was not read, if its device failed
 abbrev pub unread_record : ℕ → Why
 unread_record offset = why.Record (record { kind = DeviceFailed; offset = offset })
 
--- how a command tells why the bytes of a record were not sent, which begins at this offset
+-- the fault that a command reports if the bytes of the record at this offset were not sent
 abbrev pub told_fault : ℕ → ℕ → ℕ → SendFault → CommandFault
 told_fault input number offset Other = Input (inputs.Index input) (why.Stale (Some number))
 told_fault input number offset Device = Input (inputs.Archive input) (unread_record offset)
 told_fault input number offset (Sink written) = Output written
 
--- what came of sending the slice of an entry: the draft took it, or why it did not
+-- the result of sending the slice of an entry: the draft received it, or the reason why not
 abbrev pub SendsSlice : {P : Type 0} → Reader P → EntryAt → Writer → Result (Unit {0}) CommandFault → Type 0
 SendsSlice archive x draft (Ok _) =
     (slice : List ℕ) × HoldsSlice archive x slice × Takes draft slice × Unfailed archive
 SendsSlice archive x draft (Err fault) = StopsSlice archive x draft fault
 
--- The same from its archive among several, of which no other is touched.
+-- The same from its archive among several; no other is read.
 abbrev pub SendsFrom : {P : Type 0} → (P → Option (List ℕ)) → (P → ℕ) → List P → List P → EntryAt → Writer
     → Result (Unit {0}) CommandFault → Type 0
 SendsFrom {P} whole failures old new x draft result =

@@ -13,19 +13,19 @@ use Rattle.command_common.specs.Outputs.{Writer}
 use Rattle.command_extract.specs.Extract.{Extraction}
 use Rattle.command_extract.specs.Wanted.{line_of}
 
--- The record of this number of a content admits the slice, and its key has its width.
+-- The record with this number in a content admits the slice, and its key has its width.
 pub record IsAdmittedAt (o : Operations) (number : ℕ) (slice : List ℕ) : Type 0 where
   pub within : number < set.len o
   pub record_is : slice_index_or (listing o) number [] ≡ admission_record slice
   pub long : length (key_bytes (key_of slice)) ≡ 24
 
--- So it is, and the slice has this SHA-256 and so many bytes.
+-- The record with this number admits the slice, which has this SHA-256 and length.
 pub record IsChosenIn (o : Operations) (number : ℕ) (digest : Digest) (size : ℕ) (slice : List ℕ) : Type 0 where
   pub admitted : IsAdmittedAt o number slice
   pub digest_is : digest.0 ≡ sha256 slice
   pub size_is : size ≡ length slice
 
--- Such a slice is the one that a command makes, with its line, and no reader failed.
+-- The slice at this number is the one that the command makes, with its line, and no reader failed.
 pub record KeepsWanted (command : Writer → Extraction) (key : SliceKey) (o : Operations) (number : ℕ) (digest : Digest)
     (size : ℕ) : Type 0 where
   pub slice : List ℕ

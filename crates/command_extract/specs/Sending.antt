@@ -1,4 +1,4 @@
--- The results of sending bytes of a known SHA-256.
+-- The results of sending bytes with a known SHA-256.
 use Rattle.std.specs.Prelude.{◌≡◌, ◌≢◌, ℕ, ◌<◌, ◌≤◌, Bool, List, [], length, Option, Some, IfSome, Result, MatchResult}
 use Rattle.std.specs.Bool.{MatchBool}
 use Rattle.byte_device.specs.Devices.{Stream}
@@ -7,16 +7,16 @@ use Rattle.command_extract.specs.Copies.{Gains, HasFailed, HaveDigest, IsCopied,
 use Rattle.command_extract.specs.declared.tested_copy.SendFault.{SendFault}
 use Rattle.command_extract.specs.declared.tested_copy.SendFault.TheVariants.{Other, Device, Sink}
 
--- some bytes are asked for, and so many are at the offset and have this SHA-256
+-- some bytes are requested, and those at the offset have this SHA-256
 abbrev pub HaveSome : Option (List ℕ) → ℕ → ℕ → List ℕ → Type 0
 HaveSome whole at size digest = (0 < size) × HaveDigest whole at size digest
 
--- no such bytes do, where they are known
+-- if the device's bytes are known, `HaveSome` does not hold
 abbrev pub HaveOther : Option (List ℕ) → ℕ → ℕ → List ℕ → Type 0
 HaveOther whole at size digest = IfSome whole (λ all. HaveSome (Some all) at size digest → ⊥)
 
--- What came of comparing the SHA-256 of so many bytes at the offset with this one; or the device failed. It keeps its
--- bytes.
+-- The result of comparing the SHA-256 of `size` bytes at the offset with this one; or the device failed. The device
+-- keeps its bytes.
 pub record TestsAt {P : Type 0} (device : Stream P) (at size : ℕ) (digest : List ℕ) (result : Result Bool Failed)
     : Type 0 where
   pub keeps : device.bytes device.new ≡ device.bytes device.old
@@ -25,8 +25,8 @@ pub record TestsAt {P : Type 0} (device : Stream P) (at size : ℕ) (digest : Li
       (HaveOther (device.bytes device.old) at size digest))
       (λ _. HasFailed device)
 
--- why bytes were not sent: they have another SHA-256, or the device failed, or the sink did, which had so many then,
--- and not all
+-- why bytes were not sent: they have another SHA-256, or the device failed, or the sink did after `gained` bytes, which
+-- are not all
 abbrev pub Hinders : {P W : Type 0} → Stream P → Stream W → ℕ → ℕ → List ℕ → ℕ → SendFault → Type 0
 Hinders device sink at size digest gained Other =
     HaveOther (device.bytes device.old) at size digest × IsUnfailed device × IsUnfailed sink
@@ -34,8 +34,8 @@ Hinders device sink at size digest gained Device = HasFailed device × IsUnfaile
 Hinders device sink at size digest gained (Sink written) =
     (written ≡ gained) × (gained < size) × IsUnfailed device × HasFailed sink
 
--- Bytes were not sent. The sink gained these that are at the offset: none, unless so many were found there to have the
--- SHA-256.
+-- Bytes were not sent. The sink gained these, which are at the offset: none, unless `size` bytes there were found to
+-- have the SHA-256.
 pub record StopsSending {P W : Type 0} (device : Stream P) (sink : Stream W) (at size : ℕ) (digest : List ℕ)
     (fault : SendFault) : Type 0 where
   pub bytes : List ℕ
@@ -44,7 +44,7 @@ pub record StopsSending {P W : Type 0} (device : Stream P) (sink : Stream W) (at
   pub held_back : bytes ≢ [] → HaveSome (device.bytes device.old) at size digest
   pub hinders : Hinders device sink at size digest (length bytes) fault
 
--- What came of sending so many bytes from an offset on into a sink: it gained them, and they have this SHA-256; or it
+-- The result of sending `size` bytes from an offset on into a sink: it gained them, and they have this SHA-256; or it
 -- did not gain them all. The device keeps its bytes.
 pub record SendsAt {P W : Type 0} (device : Stream P) (sink : Stream W) (at size : ℕ) (digest : List ℕ)
     (result : Result (Unit {0}) SendFault) : Type 0 where

@@ -1,24 +1,24 @@
-//! What is chosen for who wants a slice.
+//! The choice of a wanted slice.
 
 use archive_core::{Digest, FindRow};
 use memory::Heap;
 
-/// A slice that is chosen.
+/// A chosen slice.
 #[derive(Drop)]
 pub struct Chosen<P> {
     /// Where it is.
     pub place: P,
     /// Its SHA-256.
     pub digest: Digest,
-    /// How many bytes it has.
+    /// Its length in bytes.
     pub size: u64,
 }
 
-/// Which slice is wanted.
+/// The choice of a wanted slice.
 #[derive(Drop)]
 pub enum Choice<P> {
-    /// This one.
+    /// This slice.
     One(Chosen<P>),
-    /// None, or several of which none is preferred: the rows of those that answer.
+    /// None, or several with no preference: the rows of those that answer.
     Undecided(Vec<FindRow, Heap>),
 }

@@ -1,4 +1,4 @@
-//! The slice that is wanted under a key, among those that an archive holds.
+//! The slice that is wanted under a key, among those of an archive.
 
 ghost use Rattle.std.specs.Prelude.{◌≡◌, ◌≢◌, ◌∷◌, ◌↔◌, [], ℕ, List, None, Some, IfNone, IfOk, IfSome, length, map};
 ghost use Rattle.std.specs.Prelude.{◌<◌, slice_index_or, true};
@@ -24,7 +24,7 @@ fn row(slice: &Slice) -> FindRow
     FindRow::of(&Record::Admit(slice.lend()))
 }
 
-/// The rows of slices, in their order.
+/// The rows of slices, in order.
 fn rows_of(heap: Heap, slices: &[&Slice]) -> Result<Vec<FindRow, Heap>, NoMemory>
     ensures { IfOk result (λ rows. rows.items ≡ map (λ slice. slice_row slice.now) slices.now) }
 {
@@ -35,7 +35,7 @@ fn rows_of(heap: Heap, slices: &[&Slice]) -> Result<Vec<FindRow, Heap>, NoMemory
     Ok(rows)
 }
 
-/// The only one of slices, if they are one.
+/// The only slice, if there is exactly one.
 fn only<'s>(slices: &[&'s Slice]) -> Option<&'s Slice>
     ensures one { IfSome result (λ slice. map (λ slice. slice.now) slices.now ≡ slice.now ∷ []) }
     ensures other { IfNone result (length slices.now ≢ 1) }
@@ -68,7 +68,7 @@ fn number_of<A: Archive>(archive: &A, slice: &Slice) -> u64
     unreachable!()
 }
 
-/// A slice that answers, which the archive has.
+/// The choice of a slice that answers, which the archive has.
 fn choose_answering<A: Archive>(archive: &A, slice: &Slice) -> Chosen<u64>
     requires { set.contains (A.content archive.now) (admission_record slice.now) ≡ true }
     ensures { IsChosenIn (A.content archive.now) result.place result.digest result.size slice.now }
@@ -91,7 +91,7 @@ fn answering<A: Archive>(heap: Heap, archive: &A, key: &SliceKey) -> Result<Choi
     }
 }
 
-/// The slice that a record admits, if it is one under the key that has the digest.
+/// The slice that a record admits, if it is under the key and has the digest.
 fn slice_in<'a>(held: Record<'a>, key: &SliceKey, digest: &Digest) -> Option<CheckedSlice<'a>>
     requires { length (key_bytes key.now) ≡ 24 }
     ensures found { IfSome result (λ slice. (borrowed_bytes held.entry ≡ admission_record slice) × IsValid slice
@@ -110,7 +110,7 @@ fn slice_in<'a>(held: Record<'a>, key: &SliceKey, digest: &Digest) -> Option<Che
     }
 }
 
-/// A slice that is held under a key and has a digest.
+/// A slice of the archive under a key, with this digest.
 fn held_with<A: Archive>(archive: &A, key: &SliceKey, digest: &Digest) -> Option<Chosen<u64>>
     requires { length (key_bytes key.now) ≡ 24 }
     ensures found { IfSome result (λ chosen. (slice : List ℕ) × IsLive (A.content archive.now) key.now slice
@@ -132,7 +132,7 @@ fn held_with<A: Archive>(archive: &A, key: &SliceKey, digest: &Digest) -> Option
 }
 
 /// The slice that is wanted under a key, by the number of its record: the one that answers, or one with the digest. The
-/// archive holds what is under the key.
+/// archive has all records under the key.
 pub(crate) fn choose_in<A: Archive>(
     heap: Heap,
     archive: &A,

@@ -1,4 +1,4 @@
-//! Bytes that are copied from an offset in a device into a sink.
+//! Copies of bytes from an offset in a device into a sink.
 
 ghost use Rattle.std.specs.Prelude.{◌≡◌, ◌+◌, ◌<◌, ◌≤◌, ◌^◌, IfOk, length};
 ghost use Rattle.byte_device.specs.Devices.{CountsFailure, stream};
@@ -8,18 +8,18 @@ ghost use Rattle.command_extract.specs.Copies.{CopiesAt};
 use byte_device::{Failed, Placed, Sink, push_all};
 use sha2::{Digest, Sha256};
 
-/// Why a copy is not whole.
+/// Why a copy is incomplete.
 #[derive(Clone, Copy, Debug, PartialEq, Eq)]
 pub enum CopyFault {
-    /// Fewer bytes are at the offset.
+    /// The device has fewer bytes at the offset.
     Ended,
     /// The device failed.
     Device,
-    /// The sink failed after it had taken this many bytes.
+    /// The sink failed after it had accepted this number of bytes.
     Sink(u128),
 }
 
-/// Reads bytes from offset `at` on into the first bytes of a buffer, no more than so many.
+/// Reads at most `most` bytes from offset `at` on into the first bytes of a buffer.
 fn take_piece<P: Placed>(
     device: &mut P,
     at: u64,
@@ -38,7 +38,8 @@ fn take_piece<P: Placed>(
     device.take_at(at, &mut buffer[..room])
 }
 
-/// Copies `size` bytes from offset `at` on into a sink, and returns their SHA-256. The buffer has one piece at a time.
+/// Copies `size` bytes from offset `at` on into a sink, and returns their SHA-256. The buffer holds one piece at a
+/// time.
 pub fn copy_at<P: Placed, W: Sink>(
     device: &mut P,
     at: u64,

@@ -8,18 +8,18 @@ use index_format::Index;
 use index_lookup::{NamedSlice, named_among, named_with};
 use memory::{Heap, NoMemory};
 
-/// What the entries of indexes have for who wants a slice.
+/// The choice of a wanted slice by the entries of indexes.
 #[derive(Drop)]
 pub(crate) enum EntryChoice {
     /// The slice.
     One(NamedSlice),
-    /// None, or several of which none is preferred: the rows of those that answer.
+    /// None, or several with no preference: the rows of those that answer.
     Undecided(Vec<FindRow, Heap>),
-    /// Several, which no entry puts in order.
+    /// Several that no entry puts in order.
     Tied,
 }
 
-/// The only one of slices, if they are one.
+/// The only slice, if there is exactly one.
 fn only(named: &[NamedSlice]) -> Option<NamedSlice>
     ensures one { IfSome result (λ one. named.now ≡ one ∷ []) }
     ensures other { IfNone result (length named.now ≢ 1) }
@@ -31,7 +31,7 @@ fn only(named: &[NamedSlice]) -> Option<NamedSlice>
     }
 }
 
-/// The rows of slices, in their order.
+/// The rows of slices, in order.
 fn rows_of(heap: Heap, named: &[NamedSlice]) -> Result<Vec<FindRow, Heap>, NoMemory>
     ensures { IfOk result (λ rows. rows.items ≡ map (λ one. one.row) named.now) }
 {
@@ -51,8 +51,7 @@ fn answering(heap: &Heap, key: &SliceKey, read: &[Index]) -> Result<EntryChoice,
     }
 }
 
-/// The slice that is wanted under a key, as the entries of these indexes name it: the one that answers, or one with the
-/// digest.
+/// The slice that is wanted under a key, by the entries of these indexes: the one that answers, or one with the digest.
 pub(crate) fn choose_entry(
     heap: &Heap,
     key: &SliceKey,

@@ -17,13 +17,13 @@ use memory::Heap;
 
 /// Evidence that has slices: the records of archives, which are held as an `A`, or their indexes.
 pub trait SliceEvidence<A>: Evidence {
-    /// Where a slice is that was chosen.
+    /// Where a chosen slice is.
     type Place: Drop;
 
-    // The command that writes the slice that is wanted.
+    // The command that writes the wanted slice.
     ghost extraction: { Self → Self → SliceKey → Option Digest → Writer → Extraction };
 
-    // The slice was chosen between these two states.
+    // The slice was chosen between these two states of the evidence.
     ghost placed: { Self → Self → SliceKey → Option Digest → Chosen Self.Place → Type 0 };
 
     /// Reads the inputs, and chooses the one slice that answers under the key in the join of the archives, or a held
@@ -43,11 +43,11 @@ pub trait SliceEvidence<A>: Evidence {
         ensures chooses { Chooses (extraction self.old self.new key.now digest.now)
             (placed self.old self.new key.now digest.now) result };
 
-    /// Sends the bytes of the slice that was chosen to a draft, after they were found to have its SHA-256.
+    /// Sends the bytes of the chosen slice to a draft, after they were found to have its SHA-256.
     ///
     /// # Errors
     ///
-    /// `Input` for an archive that has others by now; `Output` if the draft failed; `OutOfMemory`.
+    /// `Input` for an archive that has other bytes by now; `Output` if the draft failed; `OutOfMemory`.
     fn send<W: Sink>(
         &mut self,
         heap: Heap,

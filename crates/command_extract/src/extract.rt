@@ -16,13 +16,14 @@ use command_common::{CommandFault, Status, publish_output, write_report};
 use memory::Heap;
 
 /// Writes the bytes of the one slice that answers under the key in the join of the archives to OUT, or of a held one
-/// with the digest, and its line to the report. The inputs are read, and a slice is chosen, before OUT is begun.
+/// with the digest, and its line to the report. The inputs are read, and a slice is chosen, before OUT is created.
 ///
-/// If there is no such slice OUT is kept, and the report has a line for each that answers; the status is `Partial`.
+/// If there is no such slice, OUT is kept, and the report has a line for each slice that answers; the status is
+/// `Partial`.
 ///
 /// # Errors
 ///
-/// `Input` for the first input that is refused; `Output` and `Report` where that writer failed; `OutOfMemory`.
+/// `Input` for the first input that is refused; `Output` and `Report` if that writer failed; `OutOfMemory`.
 pub fn run_extract<A, E: SliceEvidence<A>, T: Target, P: Sink>(
     heap: Heap,
     evidence: &mut E,
@@ -44,7 +45,7 @@ pub fn run_extract<A, E: SliceEvidence<A>, T: Target, P: Sink>(
 }
 
 /// Sends a slice that was chosen under a key to OUT, publishes it, and then writes its line to the report. The line is
-/// made before OUT is begun.
+/// made before OUT is created.
 fn publish_chosen<A, E: SliceEvidence<A>, T: Target, P: Sink>(
     heap: Heap,
     evidence: &mut E,

@@ -7,7 +7,7 @@ ghost use Rattle.command_extract.specs.Copies.{HashesAt};
 use crate::copying::{CopyFault, copy_at};
 use byte_device::{Failed, Nowhere, Placed};
 
-/// The SHA-256 of `size` bytes from offset `at` on; none if fewer are there. The buffer has one piece at a time.
+/// The SHA-256 of `size` bytes from offset `at` on; `None` if there are fewer. The buffer holds one piece at a time.
 pub fn hash_at<P: Placed>(
     device: &mut P,
     at: u64,

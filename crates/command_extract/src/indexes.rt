@@ -22,8 +22,8 @@ use index_format::Index;
 use index_lookup::NamedSlice;
 use memory::Heap;
 
-/// Chooses a slice of those that the indexes name under a key, which were read before. The slices are read at their
-/// places, tested and hashed, and kept.
+/// Chooses among the slices that the indexes, which were read before, name under a key. The slices are read at their
+/// offsets, tested and hashed, and kept.
 fn choose_tied<A: Archive + Drop, P: Placed>(
     heap: Heap,
     key: &SliceKey,
@@ -48,7 +48,7 @@ fn choose_tied<A: Archive + Drop, P: Placed>(
     }
 }
 
-/// A slice that an entry names, chosen.
+/// The choice of a slice that an entry names.
 fn choose_named<A>(named: NamedSlice) -> Chosen<Place<A>>
     ensures place { result.place ≡ Named named }
     ensures digest { result.digest ≡ named.row.digest }
@@ -64,7 +64,7 @@ fn choose_named<A>(named: NamedSlice) -> Chosen<Place<A>>
 }
 
 /// Chooses a slice by the entries of indexes, which are read. No slice is read, unless two that answer have one length
-/// and stand in two archives.
+/// and are in two archives.
 fn choose_by<A: Archive + Drop, I: Placed, P: Placed>(
     heap: Heap,
     indexes: &mut [I],
@@ -75,8 +75,8 @@ fn choose_by<A: Archive + Drop, I: Placed, P: Placed>(
     requires { length indexes.old ≡ length archives.old }
     ensures { let named = readers I.whole I.failures indexes.old indexes.new in
         Chooses (extract_at named (readers P.whole P.failures archives.old archives.new) key.now digest.now)
-        (λ chosen. IsFoundAt A.content named P.whole P.failures archives.old archives.new key.now digest.now chosen.place
-        chosen.digest chosen.size) result }
+        (λ chosen. IsFoundAt A.content named P.whole P.failures archives.old archives.new key.now digest.now
+        chosen.place chosen.digest chosen.size) result }
 {
     let read = read_indexes(&heap, indexes, archives)?;
     match choose_entry(&heap, key, digest, &read)? {

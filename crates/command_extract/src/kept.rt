@@ -1,4 +1,4 @@
-//! A slice in an archive that was read, which is sent from there.
+//! A slice in an archive that was read, from which it is sent.
 
 ghost use Rattle.std.specs.Prelude.{ℕ, List};
 ghost use Rattle.command_common.specs.Outputs.{writer};
@@ -9,10 +9,10 @@ use archive_core::{Archive, Record};
 use byte_device::{Sink, push_all};
 use command_common::CommandFault;
 
-/// Where a slice is that was read.
+/// Where a slice is that was read from an archive.
 #[derive(Drop)]
 pub struct Kept<A> {
-    /// What was kept of the archives.
+    /// The kept records of the archives.
     pub archive: A,
     /// The number of the slice's record there.
     pub number: u64,

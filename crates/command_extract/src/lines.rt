@@ -12,7 +12,7 @@ use memory::{Heap, NoMemory};
 use text_reports::{Text, find_lines};
 use text_values::Spelled;
 
-/// The line of a slice under a key that was written: its digest, and how many bytes it has.
+/// The line of a slice under a key that was written: its digest, and its length in bytes.
 pub(crate) fn line_of(
     heap: Heap,
     key: SliceKey,
@@ -28,7 +28,7 @@ pub(crate) fn line_of(
     Ok(text)
 }
 
-/// Reports which answer, of which none is wanted.
+/// Reports the slices that answer, none of which is wanted.
 pub(crate) fn report_rows<P: Sink>(
     heap: Heap,
     rows: &[FindRow],

@@ -1,4 +1,4 @@
-//! Where a slice is that indexes name.
+//! Where a slice of indexed archives is.
 
 use crate::kept::Kept;
 use index_lookup::NamedSlice;
@@ -8,6 +8,6 @@ use index_lookup::NamedSlice;
 pub enum Place<A> {
     /// In its archive, as its entry names it.
     Named(NamedSlice),
-    /// Among what was read of the archives.
+    /// Among the slices that were read from the archives.
     Kept(Kept<A>),
 }

@@ -16,8 +16,8 @@ use byte_device::{Sink, Source};
 use command_common::{CommandFault, Records, bytes_of, first_and_rest, read_parts};
 use memory::Heap;
 
-/// Chooses a slice of an archive and others, which are read one after another, each to its end. What they have under
-/// the key is kept.
+/// Chooses a slice from an archive and others, which are read one after another, each to its end. Their records under
+/// the key are kept.
 fn choose_together<A: Archive + Drop, S: Source>(
     heap: Heap,
     archive: &mut S,
@@ -45,7 +45,7 @@ fn choose_together<A: Archive + Drop, S: Source>(
     }
 }
 
-/// Chooses a slice of archives.
+/// Chooses a slice from archives.
 fn choose_first<A: Archive + Drop, S: Source>(
     heap: Heap,
     archives: &mut [S],

@@ -16,7 +16,7 @@ use command_common::{CommandFault, InputName, Why};
 use index_lookup::NamedSlice;
 use memory::{Heap, NoMemory};
 
-/// Room for a piece.
+/// A buffer for one piece.
 fn room_for_piece(heap: Heap) -> Result<Vec<u8, Heap>, NoMemory>
     ensures { IfOk result (λ piece. 0 < length piece.items) }
 {
@@ -25,7 +25,7 @@ fn room_for_piece(heap: Heap) -> Result<Vec<u8, Heap>, NoMemory>
     Ok(piece)
 }
 
-/// Why a record was not read, whose device failed.
+/// Why a record was not read, if its device failed.
 fn unread(offset: u64) -> Why
     ensures { result ≡ unread_record offset }
 {
@@ -35,7 +35,7 @@ fn unread(offset: u64) -> Why
     })
 }
 
-/// Why a slice was not sent, as a command tells it.
+/// The fault that a command reports if a slice was not sent.
 fn told(named: &NamedSlice, fault: SendFault) -> CommandFault
     ensures { result ≡ told_fault named.now.input named.now.number named.now.offset fault }
 {
@@ -53,7 +53,7 @@ fn told(named: &NamedSlice, fault: SendFault) -> CommandFault
     }
 }
 
-/// Sends the slice of the record that stands at this offset, as [`send_at`] does.
+/// Sends the slice of the record at this offset, as [`send_at`] does.
 fn send_slice_at<P: Placed, W: Sink>(
     device: &mut P,
     offset: u64,
@@ -101,7 +101,7 @@ fn send_named<P: Placed, W: Sink>(
     }
 }
 
-/// Sends the slice that an entry names from its archive among these to a draft.
+/// Sends the slice that an entry names from its archive, one of these, to a draft.
 pub(crate) fn send_from<P: Placed, W: Sink>(
     heap: Heap,
     named: &NamedSlice,

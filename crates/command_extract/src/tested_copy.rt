@@ -1,4 +1,4 @@
-//! Bytes of a known SHA-256 that are sent from an offset in a device into a sink.
+//! Bytes with a known SHA-256 that are sent from an offset in a device into a sink.
 
 ghost use Rattle.std.specs.Prelude.{◌≡◌, ◌+◌, ◌<◌, ◌^◌, IfErr, IfOk, OnErr, OnOk, length, true, false};
 ghost use Rattle.byte_device.specs.Devices.{CountsFailure, stream};
@@ -12,15 +12,15 @@ use byte_device::{Failed, Placed, Sink};
 /// Why bytes were not sent.
 #[derive(Clone, Copy, Debug, PartialEq, Eq)]
 pub enum SendFault {
-    /// The bytes at the offset have another SHA-256, or there are fewer, or none are asked for.
+    /// The bytes at the offset have another SHA-256, or there are fewer, or none are requested.
     Other,
     /// The device failed.
     Device,
-    /// The sink failed after it had taken this many bytes.
+    /// The sink failed after it had accepted this number of bytes.
     Sink(u128),
 }
 
-/// Whether a device has so many bytes from offset `at` on, and some. None is read.
+/// Whether `size` is not 0 and a device has that number of bytes from offset `at` on. None is read.
 fn reaches<P: Placed>(device: &mut P, at: u128, size: u64) -> Result<bool, Failed>
     requires { at + size < 2 ^ 128 }
     ensures fits { IfOk result (λ reaches. reaches ≡ true → at + size < 2 ^ 64) }
@@ -33,7 +33,7 @@ fn reaches<P: Placed>(device: &mut P, at: u128, size: u64) -> Result<bool, Faile
     Ok(size > 0 && at + u128::from(size) <= u128::from(total))
 }
 
-/// Whether the bytes at an offset have this SHA-256, and are some. They are gone through once.
+/// Whether the bytes at an offset have this SHA-256, and there are some. They are read once.
 fn has_digest<P: Placed>(
     device: &mut P,
     at: u128,
@@ -56,9 +56,9 @@ fn has_digest<P: Placed>(
     }
 }
 
-/// Sends `size` bytes that are at offset `at` and have this SHA-256 into a sink. They are gone through twice, and none
-/// is sent before they were found to have it; nor are they known to have been sent before they were found so again. The
-/// buffer has one piece at a time.
+/// Sends `size` bytes that are at offset `at` and have this SHA-256 into a sink. They are read twice: none is sent
+/// before they were found to have it, and success is returned only if they have it again as they are sent. The buffer
+/// holds one piece at a time.
 pub fn send_at<P: Placed, W: Sink>(
     device: &mut P,
     at: u128,
@@ -79,7 +79,7 @@ pub fn send_at<P: Placed, W: Sink>(
     }
 }
 
-/// Copies the bytes at an offset into a sink, which had this SHA-256 when they were hashed, and compares it again.
+/// Copies the bytes at an offset, which had this SHA-256 when they were hashed, into a sink, and compares it again.
 fn send_again<P: Placed, W: Sink>(
     device: &mut P,
     at: u64,
@@ -103,7 +103,7 @@ fn send_again<P: Placed, W: Sink>(
     }
 }
 
-/// Compares the SHA-256 of what was sent.
+/// Compares the SHA-256 of the bytes that were sent.
 fn compare(found: &[u8; 32], digest: &[u8; 32]) -> Result<(), SendFault>
     ensures same { OnOk result (found.now ≡ digest.now) }
     ensures other { OnErr result (found.now ≡ digest.now → ⊥) }

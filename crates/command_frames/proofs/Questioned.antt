@@ -71,7 +71,8 @@ told_next content o lines wanted asked before left told next one same more first
         → IsToldUnder (λ k. IsAnswerWithFrames content k lines) NoneRefused false one → IsToldUnder (λ k. IsAnswerWithFrames o k lines) NoneRefused false one
     told_as content o lines one alike its =
         key_as (IsAnswerWithFrames content one.asked.now.key lines) (IsAnswerWithFrames o one.asked.now.key lines)
-        (NoneRefused one.asked.now.key one.asked.now.places.items) (NoneRefused one.asked.now.key one.asked.now.places.items) (λ place answer frames is. sourced_as content o one.asked.now.key lines place answer frames alike is)
+        (NoneRefused one.asked.now.key one.asked.now.places.items) (NoneRefused one.asked.now.key one.asked.now.places.items)
+        (λ place answer frames is. sourced_as content o one.asked.now.key lines place answer frames alike is)
         (λ at why is. is) false one.asked.now.places.items one.told its
 
 -- none is left

@@ -250,7 +250,8 @@ module _ {D : Type 0} (whole : D → Option (List ℕ)) (failures : D → ℕ) (
 
 -- there is an answer for each place of a key that is told
 pub even_told : (IsSaid : SliceKey → Where → AnswerRecord → List (List FrameRecord) → Type 0)
-    (IsRefused : SliceKey → List Where → InputName → Why → Type 0) (slices : Bool) (asked : List AskedKey) (told : List KeyAnswers) → AreTold IsSaid IsRefused slices asked told → HaveEachTold told
+    (IsRefused : SliceKey → List Where → InputName → Why → Type 0) (slices : Bool) (asked : List AskedKey) (told : List KeyAnswers)
+    → AreTold IsSaid IsRefused slices asked told → HaveEachTold told
 even_told IsSaid IsRefused slices asked told are =
     All-weaker (IsToldUnder IsSaid IsRefused slices) (λ (one : KeyAnswers). HaveEach one.told one.asked.now.places.items)
     (λ one is. even_of (IsSaid one.asked.now.key) (IsRefused one.asked.now.key one.asked.now.places.items) slices

@@ -1,4 +1,4 @@
--- The answers for addresses by indexes: under each key from the tables of the slices that answer, or from these slices.
+-- The answers of indexes for addresses: under each key by the tables of the slices that answer, or by these slices.
 use Rattle.std.specs.Prelude.{◌≡◌, ◌+◌, ◌⊎◌, ◌&&◌, ℕ, List, [], ◌∷◌, Bool, true, false, Some, Contains, take, drop}
 use Rattle.std.specs.Prelude.{map, slice_get}
 use Rattle.std.specs.Cmp.Lexicographic.{slice_cmp}
@@ -32,12 +32,12 @@ use Rattle.command_index_queries.specs.Together.{AreReadWith, HoldNamed, IsFirst
 
 -- ---- by tables
 
--- these are the bytes of the indexes, one after another
+-- the indexes have these bytes, in order
 abbrev pub AreGiven : {I : Type 0} → List (Reader I) → List (List ℕ) → Type 0
 AreGiven indexes texts = AllZip IsGiven indexes texts
 
--- The answer is what the tables of the entries tell under the key, whatever bytes the indexes have of which this is
--- true, and so are the frames that are shown; none are if no lines are wanted.
+-- The answer and the shown frames are those of the tables of the entries under the key, for any bytes of the indexes
+-- that satisfy `AreTexts`. No frames are shown if no lines are wanted.
 pub record IsAnsweredByTables (AreTexts : List (List ℕ) → Type 0) (all : List (List (List ℕ))) (lines : Bool)
     (key : SliceKey) (asked : Where) (answer : AnswerRecord) (frames : List (List FrameRecord)) : Type 0 where
   pub answer_is : (texts : List (List ℕ)) → AreTexts texts
@@ -46,8 +46,8 @@ pub record IsAnsweredByTables (AreTexts : List (List ℕ) → Type 0) (all : Lis
 
 -- ---- by slices
 
--- Of two slices of one length under the key, in two archives, no entry says which comes first: so the slices that the
--- indexes name under this key are read, and tell the answer, and the frames that are shown.
+-- Two slices of one length under the key are in two archives, and no entry decides which comes first. So the slices
+-- that the indexes name under this key are read; the answer and the shown frames are theirs.
 pub record IsAnsweredBySlices {P : Type 0} (archives : List (Reader P)) (all : List (List (List ℕ))) (lines : Bool)
     (key : SliceKey) (asked : Where) (answer : AnswerRecord) (frames : List (List FrameRecord)) : Type 0 where
   pub tied : AreTied (key_bytes key) all
@@ -55,7 +55,7 @@ pub record IsAnsweredBySlices {P : Type 0} (archives : List (Reader P)) (all : L
   pub held : HoldNamed (key_bytes key ∷ []) archives all content
   pub answered : IsAnswerWithFrames content key lines asked answer frames
 
--- tables tell the answer, or slices do, if two are tied
+-- the answer is that of the tables, or of the slices if two are tied
 abbrev pub IsAnsweredAt : {P : Type 0} → (List (List ℕ) → Type 0) → List (Reader P) → List (List (List ℕ)) → Bool
     → SliceKey → Where → AnswerRecord → List (List FrameRecord) → Type 0
 IsAnsweredAt AreTexts archives all lines key asked answer frames =
@@ -68,7 +68,7 @@ IsAnsweredAt AreTexts archives all lines key asked answer frames =
 abbrev pub keys_of : List Frame → List (List ℕ)
 keys_of frames = map (λ frame. key_bytes frame.key) frames
 
--- Under the key with these bytes a place has an answer.
+-- Under the key with these bytes the address has an answer.
 pub record HasAnswer {P : Type 0} (AreTexts : List (List ℕ) → Type 0) (archives : List (Reader P))
     (all : List (List (List ℕ))) (lines : Bool) (bytes : List ℕ) (asked : Where) : Type 0 where
   pub key : SliceKey
@@ -77,21 +77,21 @@ pub record HasAnswer {P : Type 0} (AreTexts : List (List ℕ) → Type 0) (archi
   pub frames : List (List FrameRecord)
   pub answered : IsAnsweredAt AreTexts archives all lines key asked answer frames
 
--- each of these frames whose key has lower bytes than these has an answer
+-- each of these frames whose key has lower bytes than `key` has an answer
 abbrev pub AreAnsweredBelow : {P : Type 0} → (List (List ℕ) → Type 0) → List (Reader P) → List (List (List ℕ)) → Bool
     → List Frame → List ℕ → Type 0
 AreAnsweredBelow AreTexts archives all lines frames bytes =
     (frame : Frame) → Contains frames frame → slice_cmp nat_cmp (key_bytes frame.key) bytes ≡ Less
     → HasAnswer AreTexts archives all lines (key_bytes frame.key) (asked_of frame.load frame.address)
 
--- Under the key with these bytes the frames mean these places, and maybe others are among them.
+-- The frames of the key with these bytes have these addresses; others may be among them.
 pub record HavePlaces (frames : List Frame) (bytes : List ℕ) (places : List Where) : Type 0 where
   pub whole : (frame : Frame) → Contains frames frame → key_bytes frame.key ≡ bytes
       → Contains places (asked_of frame.load frame.address)
 
 -- ---- refused
 
--- the device of the index of this number failed once, and no other did
+-- the device of the index with this number failed once, and no other device failed
 pub record FailsAlone {I : Type 0} (indexes : List (Reader I)) (input : ℕ) : Type 0 where
   pub index : Reader I
   pub index_is : slice_get indexes input ≡ Some index
@@ -99,7 +99,7 @@ pub record FailsAlone {I : Type 0} (indexes : List (Reader I)) (input : ℕ) : T
   pub before : EachUnfailed (take input indexes)
   pub after : EachUnfailed (drop (input + 1) indexes)
 
--- The table of one of the entries that answer was changed, and those before it tell of these places, if all bytes are
+-- The table of one of the entries that answer was changed; those before it answer these addresses, if all bytes are
 -- known. No device failed.
 pub record IsChanged {I : Type 0} (lines : Bool) (indexes : List (Reader I)) (places : List Where)
     (answering : List EntryAt) (at : InputName) (why : Why) : Type 0 where
@@ -111,8 +111,8 @@ pub record IsChanged {I : Type 0} (lines : Bool) (indexes : List (Reader I)) (pl
   pub first : (texts : List (List ℕ)) → AreGiven indexes texts → TellBefore texts lines places answering input number
   pub unfailed : EachUnfailed indexes
 
--- The table of one of the entries that answer has no lines, which are wanted, and those before it tell of these places
--- and have their frames, if all bytes are known. No device failed.
+-- The table of one of the entries that answer has no lines, which are wanted; those before it answer these addresses
+-- with their frames, if all bytes are known. No device failed.
 pub record IsLineless {I : Type 0} (lines : Bool) (indexes : List (Reader I)) (places : List Where)
     (answering : List EntryAt) (at : InputName) (why : Why) : Type 0 where
   pub input : ℕ
@@ -124,7 +124,7 @@ pub record IsLineless {I : Type 0} (lines : Bool) (indexes : List (Reader I)) (p
   pub first : (texts : List (List ℕ)) → AreGiven indexes texts → TellBefore texts lines places answering input number
   pub unfailed : EachUnfailed indexes
 
--- The device of an index failed while the table of one of the entries that answer was read in it.
+-- The device of an index failed while the table of one of its entries that answer was read.
 pub record IsUnreadTable {I : Type 0} (indexes : List (Reader I)) (answering : List EntryAt) (at : InputName)
     (why : Why) : Type 0 where
   pub input : ℕ
@@ -134,8 +134,8 @@ pub record IsUnreadTable {I : Type 0} (indexes : List (Reader I)) (answering : L
   pub asked : IsAskedAt answering input offset
   pub failed : FailsAlone indexes input
 
--- A table of the entries that answer is not told. If slices are wanted, that is for its device alone: otherwise its key
--- is refused, and the others are answered.
+-- A table of the entries that answer is refused. If slices are wanted, only a device is a reason: a changed table, or
+-- one without lines, refuses its key, and the other keys are answered.
 abbrev pub IsTableRefused : {I : Type 0} → Bool → Bool → List (Reader I) → List Where → List EntryAt → InputName → Why
     → Type 0
 IsTableRefused lines false indexes places answering at why =
@@ -143,7 +143,7 @@ IsTableRefused lines false indexes places answering at why =
     ⊎ (IsLineless lines indexes places answering at why ⊎ IsUnreadTable indexes answering at why)
 IsTableRefused lines true indexes places answering at why = IsUnreadTable indexes answering at why
 
--- Under one of these keys a table is not told, of these places.
+-- Under one of these keys a table is refused at these addresses.
 pub record IsUntoldUnder {I : Type 0} (lines slices : Bool) (keys : List (List ℕ)) (indexes : List (Reader I))
     (all : List (List (List ℕ))) (at : InputName) (why : Why) : Type 0 where
   pub key : List ℕ
@@ -153,8 +153,8 @@ pub record IsUntoldUnder {I : Type 0} (lines slices : Bool) (keys : List (List �
   pub are : AreAnsweringAmong key all answering
   pub untold : IsTableRefused lines slices indexes places answering at why
 
--- The indexes were read, and then under the key of one of these frames a table is not told, of the places that its
--- frames mean. Unless slices are wanted, the frames of lower keys have answers.
+-- The indexes were read, and then under the key of one of these frames a table is refused, at the addresses of its
+-- frames. Unless slices are wanted, the frames of lower keys have answers.
 pub record AreUntold {I P : Type 0} (lines slices : Bool) (frames : List Frame) (indexes : List (Reader I))
     (archives : List (Reader P)) (at : InputName) (why : Why) : Type 0 where
   pub all : List (List (List ℕ))
@@ -164,7 +164,7 @@ pub record AreUntold {I P : Type 0} (lines slices : Bool) (frames : List Frame) 
   pub of_frames : HavePlaces frames untold.key untold.places
   pub before : slices ≡ false → AreAnsweredBelow (AreGiven indexes) archives all lines frames untold.key
 
--- it is stale at an entry: no record of its archive is there
+-- the index is stale at an entry: its archive has no such record
 abbrev pub is_stale_entry : Why → Bool
 is_stale_entry CannotOpen = false
 is_stale_entry CannotRead = false
@@ -181,9 +181,9 @@ is_stale_entry (NoLines _) = false
 is_stale_entry NoArchive = false
 is_stale_entry NoIndex = false
 
--- Two slices are tied under the key of one of these frames, and of the archives, which are read for it, one is refused.
--- Unless slices are wanted, the frames of lower keys have answers. If they are, that is not for an entry: otherwise its
--- key is refused, and the others are answered.
+-- Two slices are tied under the key of one of these frames, and one of the archives, which are read for them, is
+-- refused. Unless slices are wanted, the frames of lower keys have answers. If they are wanted, a stale entry is not a
+-- reason: it refuses its key, and the other keys are answered.
 pub record AreUnread {I P : Type 0} (lines slices : Bool) (frames : List Frame) (indexes : List (Reader I))
     (archives : List (Reader P)) (at : InputName) (why : Why) : Type 0 where
   pub key : List ℕ
@@ -193,8 +193,9 @@ pub record AreUnread {I P : Type 0} (lines slices : Bool) (frames : List Frame) 
   pub before : slices ≡ false → AreAnsweredBelow (AreGiven indexes) archives refused.all lines frames key
   pub of_all : (slices && is_stale_entry why) ≡ false
 
--- The first that is refused, of commands that ask for these frames: an index, or the length of its archive; after that,
--- by the bytes of the keys, an archive whose slices are read, since two are tied; or a table.
+-- The refusal of commands that answer these frames: the first index that is refused, or length of its archive; after
+-- that an archive whose slices are read because two are tied, or a table, and unless slices are wanted the first one in
+-- the order of the keys' bytes.
 abbrev pub AreRefusedAsking : {I P : Type 0} → Bool → Bool → List Frame → List (Reader I) → List (Reader P)
     → InputName → Why → Type 0
 AreRefusedAsking lines slices frames indexes archives at why =

@@ -23,7 +23,7 @@ use Rattle.command_frames.specs.Refusals.{AreRefusing, IsKeyRefused, KeyRefusal,
 use Rattle.command_frames.specs.Refusals.{replies_status, replies_text}
 use Rattle.command_frames.specs.Slices.{IsAnsweringEntryRow}
 
--- a frame of a key that is not refused has an answer, of which this is true, and else none
+-- a frame has an answer that satisfies `IsSaid` if its key is not refused, and otherwise none
 abbrev pub IsAnsweredOrRefused : (SliceKey → Where → AnswerRecord → List (List FrameRecord) → Type 0)
     → List KeyRefusal → Frame → Option Answered → Type 0
 IsAnsweredOrRefused IsSaid refusals frame None = AreRefusing refusals (key_bytes frame.key)
@@ -36,8 +36,8 @@ abbrev pub IsFrameReplied : (SliceKey → Where → AnswerRecord → List (List 
 IsFrameReplied IsSaid refusals frame reply =
     (reply.address ≡ frame.address) × IsAnsweredOrRefused IsSaid refusals frame reply.answered
 
--- Frames have replies, one a frame and in their order, and these keys of theirs are refused, by the bytes of the keys
--- and each once, of each of which this is true. The status is `SomeRefused` exactly if a key is.
+-- Each frame has a reply, in order. The keys in `refusals` are keys of frames, each once, in the order of their bytes,
+-- and each satisfies `IsRefused`. The status is `SomeRefused` exactly if a key is refused.
 pub record TellFramesBesides (IsSaid : SliceKey → Where → AnswerRecord → List (List FrameRecord) → Type 0)
     (IsRefused : KeyRefusal → Type 0) (frames : List Frame) (refusals : List KeyRefusal) (status : Status)
     (text : List ℕ) : Type 0 where
@@ -50,8 +50,8 @@ pub record TellFramesBesides (IsSaid : SliceKey → Where → AnswerRecord → L
   pub status_refused : (status ≡ SomeRefused) ↔ (refusals ≢ [])
   pub text_is : text ≡ replies_text replies
 
--- The same, and after it the lines of the slices that answer under these keys, as entries have them, and of the keys
--- that are refused.
+-- The same, followed by the lines of the slices that answer under these keys, by their entries, and by those of the
+-- keys that are refused.
 pub record TellFramesAndSlices (IsSaid : SliceKey → Where → AnswerRecord → List (List FrameRecord) → Type 0)
     (IsRefused : KeyRefusal → Type 0) (all : List (List (List ℕ))) (keys : List SliceKey) (frames : List Frame)
     (status : Status) (text : List ℕ) : Type 0 where
@@ -62,15 +62,16 @@ pub record TellFramesAndSlices (IsSaid : SliceKey → Where → AnswerRecord →
   pub sliced : TellsSlices (IsAnsweringEntryRow all keys) keys slices
   pub text_is : text ≡ answers ++ (slices ++ refusal_lines refusals)
 
--- frames are answered, and if slices are wanted also these and the keys that are refused
+-- the frames are answered; if slices are wanted, their lines and those of refused keys follow
 abbrev pub TellFramesWith : Bool → (SliceKey → Where → AnswerRecord → List (List FrameRecord) → Type 0)
     → (KeyRefusal → Type 0) → List (List (List ℕ)) → List SliceKey → List Frame → Status → List ℕ → Type 0
 TellFramesWith false IsSaid IsRefused all keys frames status text = TellFrames IsSaid frames status text
 TellFramesWith true IsSaid IsRefused all keys frames status text =
     TellFramesAndSlices IsSaid IsRefused all keys frames status text
 
--- The indexes were read, and tell this of the frames, and if slices are wanted which answer under these keys. Under
--- each key tables answer, or slices if two are tied; and a key is refused alone only if slices are wanted.
+-- The indexes were read. The frames have these answers, followed, if slices are wanted, by the slices that answer under
+-- these keys. Under each key the tables answer, or the slices if two are tied. A key is refused alone only if slices
+-- are wanted.
 pub record AreToldAt {I P : Type 0} (lines slices : Bool) (indexes : List (Reader I)) (archives : List (Reader P))
     (keys : List SliceKey) (frames : List Frame) (status : Status) (text : List ℕ) : Type 0 where
   pub all : List (List (List ℕ))
@@ -78,7 +79,7 @@ pub record AreToldAt {I P : Type 0} (lines slices : Bool) (indexes : List (Reade
   pub told : TellFramesWith slices (IsAnsweredAt (AreGiven indexes) archives all lines)
       (IsKeyRefused lines frames indexes archives all) all keys frames status text
 
--- what is asked of these archives for frames: what their indexes tell
+-- the question about frames to these archives, answered by their indexes
 abbrev pub frames_by_indexes : {I P : Type 0} → Bool → Bool → List (Reader I) → List (Reader P) → AskedOfFrames
 frames_by_indexes lines slices indexes archives = record {
   Tells = AreToldAt lines slices indexes archives;

@@ -1,5 +1,5 @@
--- What comes of asking by tables, and of asking by slices if two are tied: the words of inner functions. No contract of
--- a public one has them.
+-- The results of asking tables, and of asking slices if two are tied: definitions for private functions. No public
+-- contract uses them.
 use Rattle.std.specs.Prelude.{◌≡◌, ◌⊎◌, ◌&&◌, ℕ, List, [], ◌∷◌, Bool, true, false, Option, Result, Contains}
 use Rattle.index_format.specs.declared.index_fault.IndexFaultKind.TheVariants.{Device as DeviceKind}
 use Rattle.index_lookup.specs.Among.{AreAnsweringAmong, AreTied, EntryAt}
@@ -17,7 +17,7 @@ use Rattle.command_common.specs.declared.faults.Why.TheVariants as why
 use Rattle.command_index_queries.specs.Together.{AreAllKept, IsFirstRefusedAtPlaces}
 use Rattle.command_frames.specs.Asking.{is_stale_entry}
 
--- how a command tells a fault of answers
+-- the fault of a command for a fault of answers
 abbrev pub command_fault : AnswerFault → CommandFault
 command_fault (Damaged input entry) = command.Input (Index input) (why.Damaged entry)
 command_fault (NoLines input entry) = command.Input (Index input) (why.NoLines entry)
@@ -25,14 +25,14 @@ command_fault (Device input offset) = command.Input (Index input)
     (why.Index (record { kind = DeviceKind; offset = offset }))
 command_fault OutOfMemory = command.OutOfMemory
 
--- a fault of a key alone: a table was changed, or has no lines, which are wanted
+-- a fault of one key: a table was changed, or has no lines, which are wanted
 abbrev pub IsOfKey : Bool → AnswerFault → Type 0
 IsOfKey lines (Damaged input entry) = Unit {0}
 IsOfKey lines (NoLines input entry) = lines ≡ true
 IsOfKey lines (Device input offset) = ⊥
 IsOfKey lines OutOfMemory = ⊥
 
--- a fault refuses all keys; if slices are wanted none of a key alone does
+-- the fault refuses all keys; if slices are wanted, a fault of one key does not
 abbrev pub RefusesAll : Bool → AnswerFault → Type 0
 RefusesAll false fault = Unit {0}
 RefusesAll true (Damaged input entry) = ⊥
@@ -40,7 +40,8 @@ RefusesAll true (NoLines input entry) = ⊥
 RefusesAll true (Device input offset) = Unit {0}
 RefusesAll true OutOfMemory = Unit {0}
 
--- Under these bytes a table is not told of these places, for a fault of the key alone that a command tells so.
+-- A table of the key with these bytes is refused at these addresses, for a fault of that key alone, which a command
+-- reports as `why`.
 pub record IsKeyFault (AreTexts : List (List ℕ) → Type 0) (all : List (List (List ℕ))) (lines : Bool) (key : List ℕ)
     (places : List Where) (at : InputName) (why : Why) : Type 0 where
   pub answering : List EntryAt
@@ -51,7 +52,7 @@ pub record IsKeyFault (AreTexts : List (List ℕ) → Type 0) (all : List (List 
   pub says : (texts : List (List ℕ)) → AreTexts texts → IsUntoldAmong texts answering fault
   pub first : (texts : List (List ℕ)) → AreTexts texts → IsFirstAmong texts lines places answering fault
 
--- Under one of these keys a table is not told of these places, for a fault that a command tells so.
+-- A table of one of these keys is refused at these addresses, for a fault that a command reports as `why`.
 pub record IsUntoldBy {D : Type 0} (whole : D → Option (List ℕ)) (failures : D → ℕ) (lines slices : Bool)
     (keys : List (List ℕ)) (places : List Where) (all : List (List (List ℕ))) (old new : List D) (at : InputName)
     (why : Why) : Type 0 where
@@ -70,8 +71,8 @@ pub record IsUntoldBy {D : Type 0} (whole : D → Option (List ℕ)) (failures :
 abbrev pub NoneFailed : {D : Type 0} → (D → ℕ) → List D → List D → Type 0
 NoneFailed failures old new = each_known failures new ≡ each_known failures old
 
--- What came of asking the tables under these keys of these places: something of which this is true, and each device has
--- its bytes; or a table is not told.
+-- The result of asking the tables under these keys at these addresses: a value that satisfies `IsTrue`, and each device
+-- keeps its bytes; or a table is refused.
 abbrev pub AsksTables : {D T : Type 0} → (D → Option (List ℕ)) → (D → ℕ) → Bool → Bool → List (List ℕ) → List Where
     → List (List (List ℕ)) → List D → List D → Result T CommandFault
     → (T → Type 0) → Type 0
@@ -79,7 +80,7 @@ AsksTables whole failures lines slices keys places all old new result IsTrue =
     ReadsInputs result (λ value. IsTrue value × (each_known whole new ≡ each_known whole old))
     (IsUntoldBy whole failures lines slices keys places all old new) (NoneFailed failures old new)
 
--- Under one of these keys two slices are tied, and of the archives, which were kept up to then, one is refused.
+-- Two slices are tied under one of these keys, and one of the archives, which were kept up to then, is refused.
 pub record IsUnreadBy {P : Type 0} (whole : P → Option (List ℕ)) (failures : P → ℕ) (slices : Bool)
     (keys : List (List ℕ)) (all : List (List (List ℕ))) (old new : List P) (at : InputName) (why : Why) : Type 0 where
   pub key : List ℕ
@@ -90,7 +91,7 @@ pub record IsUnreadBy {P : Type 0} (whole : P → Option (List ℕ)) (failures :
   pub refused : IsFirstRefusedAtPlaces (key ∷ []) (readers whole failures mid new) all at why
   pub of_all : (slices && is_stale_entry why) ≡ false
 
--- What came of asking the slices under these keys: something of which this is true, and each archive is kept; or an
+-- The result of asking the slices under these keys: a value that satisfies `IsTrue`, and each archive is kept; or an
 -- archive is refused.
 abbrev pub AsksSlices : {P T : Type 0} → (P → Option (List ℕ)) → (P → ℕ) → Bool → List (List ℕ)
     → List (List (List ℕ)) → List P → List P → Result T CommandFault → (T → Type 0) → Type 0
@@ -98,7 +99,7 @@ AsksSlices whole failures slices keys all old new result IsTrue =
     ReadsInputs result (λ value. IsTrue value × AreAllKept whole failures old new)
     (IsUnreadBy whole failures slices keys all old new) (EachUnfailed (readers whole failures old new))
 
--- under one of these keys a table is not told of these places, or an archive is refused
+-- under one of these keys a table is refused at these addresses, or an archive is refused
 abbrev pub IsRefusedUnder : {D P : Type 0} → (D → Option (List ℕ)) → (D → ℕ) → (P → Option (List ℕ)) → (P → ℕ) → Bool
     → Bool → List (List (List ℕ)) → List D → List D → List P → List P → List (List ℕ) → List Where → InputName → Why
     → Type 0
@@ -107,8 +108,8 @@ IsRefusedUnder whole failures whole_at failures_at lines slices all old new old_
     × IsUntoldBy whole failures lines slices keys places all old new at why)
     ⊎ (NoneFailed failures old new × IsUnreadBy whole_at failures_at slices keys all old_at new_at at why)
 
--- What came of asking under these keys: something of which this is true, each index has its bytes, and each archive is
--- kept; or it is refused so.
+-- The result of asking under these keys: a value that satisfies `IsTrue`, each index keeps its bytes, and each archive
+-- is kept; or the given refusal.
 abbrev pub AsksBy : {D P T : Type 0} → (D → Option (List ℕ)) → (D → ℕ) → (P → Option (List ℕ)) → (P → ℕ)
     → List D → List D → List P → List P → Result T CommandFault → (T → Type 0) → (InputName → Why → Type 0) → Type 0
 AsksBy whole failures whole_at failures_at old new old_at new_at result IsTrue Refuses =
@@ -117,7 +118,7 @@ AsksBy whole failures whole_at failures_at old new old_at new_at result IsTrue R
     × AreAllKept whole_at failures_at old_at new_at) Refuses
     (NoneFailed failures old new × EachUnfailed (readers whole_at failures_at old_at new_at))
 
--- the same, where a table is not told of these places, or an archive is refused, under one of these keys
+-- the same, where a table is refused at these addresses, or an archive is refused, under one of these keys
 abbrev pub AsksKeys : {D P T : Type 0} → (D → Option (List ℕ)) → (D → ℕ) → (P → Option (List ℕ)) → (P → ℕ) → Bool
     → Bool → List (List ℕ) → List Where → List (List (List ℕ)) → List D → List D → List P → List P
     → Result T CommandFault → (T → Type 0) → Type 0

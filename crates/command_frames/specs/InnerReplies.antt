@@ -1,5 +1,4 @@
--- Replies to frames, with the lines of the keys that are refused: the words of inner functions. No contract of a public
--- one has them.
+-- Replies to frames, with the lines of refused keys: definitions for private functions. No public contract uses them.
 use Rattle.std.specs.Prelude.{◌≡◌, ℕ, Bool, true, false, List}
 use Rattle.archive_core.specs.Lookup.{AnswerRecord}
 use Rattle.archive_core.specs.declared.keys.SliceKey.{SliceKey}
@@ -14,14 +13,14 @@ use Rattle.command_frames.specs.InnerSlices.{AreFollowed}
 use Rattle.command_frames.specs.InnerKeyReplies.{ShowsFrames, refusals_in}
 use Rattle.command_frames.specs.Refusals.{KeyRefusal, refusal_lines}
 
--- frames are answered, and if slices are wanted these are the lines of the keys that are refused
+-- the frames are answered; if slices are wanted, these are the lines of the refused keys
 abbrev pub TellFramesPart : Bool → (SliceKey → Where → AnswerRecord → List (List FrameRecord) → Type 0)
     → (KeyRefusal → Type 0) → List Frame → Status → List ℕ → List ℕ → Type 0
 TellFramesPart false IsSaid IsRefused frames status answers refused = TellFrames IsSaid frames status answers
 TellFramesPart true IsSaid IsRefused frames status answers refused = (refusals : List KeyRefusal)
     × TellFramesBesides IsSaid IsRefused frames refusals status answers × (refused ≡ refusal_lines refusals)
 
--- This is printed of frames, and after it the lines of slices and of the keys that are refused, if these are wanted.
+-- The lines of the frames; if slices are wanted, followed by those of slices and of refused keys.
 pub record PrintsFrames (told : List KeyAnswers) (slices : Bool) (all : List (List (List ℕ))) (keys : List SliceKey)
     (frames : List Frame) (status : Status) (text : List ℕ) : Type 0 where
   pub answers : List ℕ

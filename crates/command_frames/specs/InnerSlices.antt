@@ -1,5 +1,5 @@
--- The rows that records have under UUIDs, and the lines of slices after answers: the words of inner functions. No
--- contract of a public one has them.
+-- The rows of records under UUIDs, and the lines of slices after answers: definitions for private functions. No public
+-- contract uses them.
 use Rattle.std.specs.Prelude.{◌≡◌, ℕ, Bool, true, false, List, ◌++◌, drop, take}
 use Rattle.std.specs.List.{AllZip, flat_map, list_any}
 use Rattle.std.specs.Str.{bytes_eq}
@@ -15,19 +15,19 @@ use Rattle.command_frames.specs.Slices.{IsAnsweringEntryRow}
 abbrev pub is_under_one : List (List ℕ) → List ℕ → Bool
 is_under_one uuids r = list_any (λ uuid. bytes_eq uuid (take 16 (drop 1 r))) uuids
 
--- Rows that searches of the content tell under these UUIDs, one search after another.
+-- The rows that searches of the content return under these UUIDs, one search after another.
 pub record AreRowsUnder (o : Operations) (uuids : List (List ℕ)) (pool : List FindRow) : Type 0 where
   pub lists : List (List FindRow)
   pub finds : AllZip (IsFinds o) uuids lists
   pub pool_is : pool ≡ flat_map (λ rows. rows) lists
 
--- The lines of the slices that answer, as such rows have it.
+-- The lines of the slices that answer, by such rows.
 pub record TellsRowsUnder (o : Operations) (uuids : List (List ℕ)) (keys : List SliceKey) (text : List ℕ) : Type 0 where
   pub pool : List FindRow
   pub rows : AreRowsUnder o uuids pool
   pub tells : TellsSlices (AnswersAmong pool) keys text
 
--- Answers, and after them the lines of the slices that answer, as such rows have it.
+-- The answers, followed by the lines of the slices that answer, by such rows.
 pub record TellsRowsAfter (Tells : Status → List ℕ → Type 0) (o : Operations) (uuids : List (List ℕ))
     (keys : List SliceKey) (status : Status) (text : List ℕ) : Type 0 where
   pub answers : List ℕ
@@ -36,8 +36,8 @@ pub record TellsRowsAfter (Tells : Status → List ℕ → Type 0) (o : Operatio
   pub rows : TellsRowsUnder o uuids keys slices
   pub text_is : text ≡ answers ++ slices
 
--- After answers are the lines of the slices that answer under the keys, as the entries of these indexes have them, and
--- then the lines of what is refused, if they are wanted.
+-- If they are wanted, the answers are followed by the lines of the slices that answer under the keys, by the entries of
+-- these indexes, and then by the lines of refusals.
 abbrev pub AreFollowed : Bool → List (List (List ℕ)) → List SliceKey → List ℕ → List ℕ → List ℕ → Type 0
 AreFollowed false all keys answers refused text = text ≡ answers
 AreFollowed true all keys answers refused text = (slices : List ℕ)

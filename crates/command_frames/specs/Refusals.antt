@@ -27,7 +27,7 @@ use Rattle.index_lookup.specs.Among.{AreAnsweringAmong, AreTied, EntryAt}
 use Rattle.text_inputs.specs.declared.frame.Frame.{Frame}
 use Rattle.command_frames.specs.Asking.{HavePlaces, IsChanged, IsLineless}
 
--- a key that is refused, with the fault
+-- a refused key, with its fault
 pub record KeyRefusal : Type 0 where
   pub key : SliceKey
   pub at : InputName
@@ -39,8 +39,8 @@ refusal_lines refusals =
     flat_map (λ refusal. line (key_text refusal.key ++ codes " refused "
     ++ command_fault_text (Input refusal.at refusal.why))) refusals
 
--- A key of frames is refused for a table: that of the first of the entries that answer under it which does not tell of
--- the places that its frames mean. It was changed, or has no lines, which are wanted. No device failed.
+-- A key of frames is refused for a table: the first one, among those of the entries that answer under it, that does not
+-- answer the addresses of its frames. It was changed, or has no lines, which are wanted. No device failed.
 pub record IsRefusedByTable {I : Type 0} (lines : Bool) (frames : List Frame) (indexes : List (Reader I))
     (all : List (List (List ℕ))) (refusal : KeyRefusal) : Type 0 where
   pub places : List Where
@@ -50,7 +50,7 @@ pub record IsRefusedByTable {I : Type 0} (lines : Bool) (frames : List Frame) (i
   pub untold : IsChanged lines indexes places answering refusal.at refusal.why
       ⊎ IsLineless lines indexes places answering refusal.at refusal.why
 
--- Of the entries under these bytes this one of this index is the first that names no record of its archive.
+-- Among the entries under these bytes, this one of this index is the first whose record is not in its archive.
 pub record IsStaleAt {P : Type 0} (archives : List (Reader P)) (all : List (List (List ℕ))) (key : List ℕ)
     (at : InputName) (why : Why) : Type 0 where
   pub number : ℕ
@@ -65,15 +65,15 @@ pub record IsStaleAt {P : Type 0} (archives : List (Reader P)) (all : List (List
   pub why_is : why ≡ Stale (Some entry)
   pub stale : IsStaleFor (key ∷ []) archive (placed_of entries) (Some entry)
 
--- A key is refused for a slice: two are tied under it, and of those that are read for it one is not there any more. No
--- device failed.
+-- A key is refused for a slice: two are tied under it, and one of those that are read for it is no longer in its
+-- archive. No device failed.
 pub record IsRefusedBySlice {P : Type 0} (archives : List (Reader P)) (all : List (List (List ℕ)))
     (refusal : KeyRefusal) : Type 0 where
   pub tied : AreTied (key_bytes refusal.key) all
   pub stale : IsStaleAt archives all (key_bytes refusal.key) refusal.at refusal.why
   pub unfailed : EachUnfailed archives
 
--- a key of frames is refused: for a table, or for a slice if two are tied
+-- a key of frames is refused for a table, or for a slice if two are tied
 abbrev pub IsKeyRefused : {I P : Type 0} → Bool → List Frame → List (Reader I) → List (Reader P)
     → List (List (List ℕ)) → KeyRefusal → Type 0
 IsKeyRefused lines frames indexes archives all refusal =
@@ -103,12 +103,12 @@ abbrev pub is_found : Option Answered → Bool
 is_found None = false
 is_found (Some row) = is_symbol row.answer
 
--- refused where one is, and else done where each answer is one symbol
+-- refused if a reply is, otherwise done if each answer is one symbol
 abbrev pub replies_status : List Reply → Status
 replies_status replies =
     if list_any (λ reply. is_refused reply.answered) replies then SomeRefused
     else if list_all (λ reply. is_found reply.answered) replies then Done else Partial
 
--- one of these refusals is of a key with these bytes
+-- one of these refusals is for a key with these bytes
 abbrev pub AreRefusing : List KeyRefusal → List ℕ → Type 0
 AreRefusing refusals key = Contains (map (λ refusal. key_bytes refusal.key) refusals) key

@@ -16,13 +16,13 @@ use command_index_queries::Indexes;
 use memory::Heap;
 use text_inputs::Frame;
 
-/// Archives by what a command reads of them to answer frames.
+/// Archives by the inputs that a command reads to answer frames.
 pub trait FrameEvidence: Evidence {
-    // What is asked of the archives for frames, with their source frames and with slices, if these are wanted.
+    // The question about frames, with their source frames if `lines`, and with slices if `slices`.
     ghost answered: { Self → Self → Bool → Bool → AskedOfFrames };
 
-    /// The status, and the lines of the answers to frames, in their order; if `lines` with the source frames of what
-    /// each slice answers, and if `slices` with the lines of the slices that answer under the UUIDs of keys.
+    /// The status, and the lines of the answers to frames, in order; if `lines`, with the source frames of each slice's
+    /// answer; and if `slices`, with the lines of the slices that answer under the UUIDs of keys.
     ///
     /// # Errors
     ///
@@ -43,7 +43,7 @@ pub trait FrameEvidence: Evidence {
             ReadsInputs result (λ told. asked.Tells keys.now frames.now told.0 told.1.items)
             (asked.Refuses frames.now) asked.Unfailed };
 
-    // Evidence that is not asked borrows the same inputs, which are as they were, and no reader fails.
+    // Evidence that is not asked keeps the same inputs unchanged, and no reader fails.
     ghost unread: { (evidence : Self) (lines slices : Bool)
         → Self.keeps evidence evidence
         × (answered evidence evidence lines slices).Untouched

@@ -26,8 +26,8 @@ use index_format::Index;
 use memory::{Heap, NoMemory};
 use text_inputs::Frame;
 
-/// The lines of the replies to the frames, and after them, if they are wanted, those of the slices that answer under
-/// these keys, and of the keys that are refused; with how a command ends that prints them.
+/// The lines of the replies to the frames; if `slices`, followed by those of the slices that answer under these keys,
+/// and those of the refused keys. Also returns the status of a command that prints them.
 fn print_frames(
     heap: &Heap,
     slices: bool,
@@ -47,16 +47,16 @@ fn print_frames(
     Ok((status, text))
 }
 
-/// The lines that a command prints of the frames, with how it ends that prints them: what the indexes tell of them key
-/// by key, in the order of the bytes of the keys, and if slices are wanted which answer under these keys.
+/// The status of the command and its lines for the frames: the answers of the indexes key by key, in the order of the
+/// keys' bytes; and if `slices`, the slices that answer under these keys.
 ///
-/// The indexes are read, and compared with the lengths of their archives. Then the keys are answered one by one: by
-/// tables, page by page, of which those under one key are open at a time; or, if two slices of one length answer under
-/// the key in two archives, by the slices that the indexes name under this key alone, which are read at their places,
-/// tested and hashed. The lines of the slices are after that, made from the entries of the indexes.
+/// The indexes are read, and compared with the lengths of their archives. Then each key is answered: by tables, page by
+/// page, where those under one key are open at a time; or, if two slices of one length answer under the key in two
+/// archives, by the slices that the indexes name under this key, which are read at their offsets, tested and hashed.
+/// The lines of the slices follow, made from the entries of the indexes.
 ///
-/// With `slices` a key whose table was changed, or has no lines, or of whose slices one that is read was changed, is
-/// refused alone: its frames have a mark in place of an answer, a line after all others names the key and the fault, and
+/// With `slices`, a key is refused alone if a table of it was changed or has no lines, or a slice of it that is read
+/// was changed: its frames have a mark in place of an answer, a line after all others has the key and the fault, and
 /// the status is `SomeRefused`.
 pub(crate) fn answer_by_indexes<A: Archive + Drop, I: Placed, P: Placed>(
     heap: &Heap,
@@ -81,17 +81,16 @@ pub(crate) fn answer_by_indexes<A: Archive + Drop, I: Placed, P: Placed>(
     Ok(shown)
 }
 
-/// Writes for each frame of FRAMES what `symbolicate` writes for its address to the report, in the order of the lines.
-/// FRAMES is read to its end first, and then the evidence is asked. Where FRAMES has no frame the inputs are read and
-/// tested all the same. If `lines`, what each slice answers is followed by the source frames of the address in it. If
-/// `slices`, the lines of the slices that answer under the UUIDs of the frames follow, and of the keys under which none
-/// does.
+/// Writes to the report, for each frame of FRAMES in order, the lines that `symbolicate` writes for its address. FRAMES
+/// is read to its end first, and then the evidence is asked. If FRAMES has no frame, the inputs are still read and
+/// tested. If `lines`, the answer of each slice is followed by the source frames of the address in it. If `slices`, the
+/// lines of the slices that answer under the UUIDs of the frames follow, and those of the keys without such a slice.
 ///
-/// The status is `Done` where each answer is one symbol, `SomeRefused` where a key is refused alone, else `Partial`.
+/// The status is `Done` if each answer is one symbol, `SomeRefused` if a key is refused alone, else `Partial`.
 ///
 /// # Errors
 ///
-/// `Input` for FRAMES, or for the first other input that is refused; `Report` where the report failed; `OutOfMemory`.
+/// `Input` for FRAMES, or for the first other input that is refused; `Report` if the report failed; `OutOfMemory`.
 pub fn run_frames<A: Archive + Drop, C: Source, E: FrameEvidence, P: Sink>(
     heap: Heap,
     lines: bool,

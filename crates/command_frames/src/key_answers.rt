@@ -1,4 +1,4 @@
-//! What indexes tell of the places that frames mean, key by key.
+//! The answers of indexes for the addresses of frames, key by key.
 
 ghost use Rattle.std.specs.Prelude.{◌≡◌, ◌∷◌, [], length};
 ghost use Rattle.archive_core.specs.Key.{key_bytes};
@@ -17,15 +17,15 @@ use command_common::CommandFault;
 use index_format::Index;
 use memory::Heap;
 
-/// A key that was asked for, and what is told of its places, or that it is refused.
+/// A key that was asked for, and the answers for its addresses, or its refusal.
 #[derive(Drop)]
 pub(crate) struct KeyAnswers<'k> {
     pub(crate) asked: &'k AskedKey,
     pub(crate) told: KeyReply,
 }
 
-/// What is told of places under a key: by the tables of the indexes, or by the slices that these name under it, if two
-/// are tied.
+/// The answers for addresses under a key: by the tables of the indexes, or by the slices that these name under it, if
+/// two are tied.
 fn answer_key<A: Archive + Drop, I: Placed, P: Placed>(
     heap: &Heap,
     read: &[Index],
@@ -50,8 +50,8 @@ fn answer_key<A: Archive + Drop, I: Placed, P: Placed>(
     }
 }
 
-/// What is told under keys, one after another: what is refused is of the first key of which something is. If slices are
-/// wanted, a table that was changed, or has no lines, and a slice that changed, refuse their key alone.
+/// The answers under keys, in order; the fault is that of the first key that has one. If slices are wanted, a table
+/// that was changed or has no lines, and a slice that was changed, refuse their key alone.
 pub(crate) fn answer_keys<'k, A: Archive + Drop, I: Placed, P: Placed>(
     heap: &Heap,
     read: &[Index],

@@ -14,7 +14,7 @@ use std::cmp::Ordering;
 use text_inputs::Frame;
 use uuid::Uuid;
 
-/// The key, of which the parts have their widths.
+/// The key itself; its parts have their widths.
 pub(crate) fn whole_key(key: SliceKey) -> SliceKey
     ensures same { result ≡ key }
     ensures key { IsKey key }

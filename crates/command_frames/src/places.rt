@@ -1,4 +1,4 @@
-//! The keys that frames name, and the places that they mean under these.
+//! The keys of frames, and the addresses of the frames under these.
 ghost use Rattle.std.specs.Prelude.{◌≡◌, ◌≤◌, IfOk, length, map};
 ghost use Rattle.std.specs.List.{prefix_len};
 ghost use Rattle.std.specs.List.Sorted.{IsSortedByKey, IsStrictlySortedBy};
@@ -15,21 +15,21 @@ use memory::{Heap, NoMemory};
 use std::cmp::Ordering;
 use text_inputs::Frame;
 
-/// A place that is asked for under a key.
+/// An address that is asked for under a key.
 #[derive(Clone, Copy)]
 pub(crate) struct AskedPlace {
     pub(crate) key: SliceKey,
     pub(crate) place: Where,
 }
 
-/// A key that is asked for, and the places under it, each once. They ascend.
+/// A key that is asked for, and the addresses under it, each once, ascending.
 #[derive(Drop)]
 pub(crate) struct AskedKey {
     pub(crate) key: SliceKey,
     pub(crate) places: Vec<Where, Heap>,
 }
 
-/// A place as numbers, which no other place has.
+/// An address as numbers; different addresses have different numbers.
 fn numbers_of(place: Where) -> [u64; 3]
     ensures { result ≡ numbers_of place }
 {
@@ -39,7 +39,7 @@ fn numbers_of(place: Where) -> [u64; 3]
     }
 }
 
-/// Compares two places: those of a file come first, the others go by the address of their load.
+/// Compares two addresses: those of a file come first, loaded ones are ordered by their load address.
 pub(crate) fn compare_places(a: Where, b: Where) -> Ordering
     ensures { result ≡ place_cmp a b }
 {
@@ -47,7 +47,7 @@ pub(crate) fn compare_places(a: Where, b: Where) -> Ordering
 }
 
 impl AskedPlace {
-    /// The place that a frame means, under its key.
+    /// The address of a frame, under its key.
     pub(crate) fn of(frame: &Frame) -> AskedPlace
         ensures { result ≡ place_of frame.now }
     {
@@ -57,7 +57,7 @@ impl AskedPlace {
         }
     }
 
-    /// Compares two by their keys, and under one key by their places.
+    /// Compares by keys, and under one key by addresses.
     fn compare(&self, other: &AskedPlace) -> Ordering
         ensures { result ≡ asked_cmp self.now other.now }
     {
@@ -65,7 +65,7 @@ impl AskedPlace {
     }
 }
 
-/// The places that frames mean, in the order of these.
+/// The addresses of frames, in the order of these.
 fn places_of_each(heap: Heap, frames: &[Frame]) -> Result<Vec<AskedPlace, Heap>, NoMemory>
     ensures { IfOk result (λ asked. asked.items ≡ map place_of frames.now) }
 {
@@ -75,7 +75,7 @@ fn places_of_each(heap: Heap, frames: &[Frame]) -> Result<Vec<AskedPlace, Heap>,
         .collect(heap)
 }
 
-/// The places that frames mean, each once, in the order of their keys.
+/// The addresses of frames, each once, in the order of their keys.
 fn asked_places(heap: Heap, frames: &[Frame]) -> Result<Vec<AskedPlace, Heap>, NoMemory>
     ensures are { IfOk result (λ asked. AreAskedOf frames.now asked.items) }
     ensures sorted { IfOk result (λ asked. IsStrictlySortedBy asked_cmp asked.items) }
@@ -86,7 +86,7 @@ fn asked_places(heap: Heap, frames: &[Frame]) -> Result<Vec<AskedPlace, Heap>, N
     Ok(asked)
 }
 
-/// How many of the first places are of a key.
+/// The number of first addresses that have this key.
 fn run_len(asked: &[AskedPlace], key: &SliceKey) -> usize
     ensures len { result ≡ prefix_len (has_key key.now) asked.now }
     ensures within { result ≤ length asked.now }
@@ -97,14 +97,14 @@ fn run_len(asked: &[AskedPlace], key: &SliceKey) -> usize
         .count()
 }
 
-/// The places alone.
+/// The addresses without their keys.
 fn places_in(heap: Heap, asked: &[AskedPlace]) -> Result<Vec<Where, Heap>, NoMemory>
     ensures { IfOk result (λ places. places.items ≡ map (λ one. one.place) asked.now) }
 {
     asked.iter().map(|one| one.place).collect(heap)
 }
 
-/// Places, which stand in the order of their keys, each once, under these.
+/// Groups addresses, each once and in the order of their keys, by key.
 fn under_keys(heap: &Heap, asked: &[AskedPlace]) -> Result<Vec<AskedKey, Heap>, NoMemory>
     requires { IsStrictlySortedBy asked_cmp asked.now }
     ensures { IfOk result (λ keys. AreGrouped asked.now keys.items) }
@@ -121,7 +121,7 @@ fn under_keys(heap: &Heap, asked: &[AskedPlace]) -> Result<Vec<AskedKey, Heap>, 
     Ok(keys)
 }
 
-/// The keys that frames name, each once and in their order, with the places that the frames mean under them.
+/// The keys of frames, each once and in order, with the addresses of the frames under them.
 pub(crate) fn asked_keys(heap: &Heap, frames: &[Frame]) -> Result<Vec<AskedKey, Heap>, NoMemory>
     ensures are { IfOk result (λ keys. AreKeysOf frames.now keys.items) }
     ensures order { IfOk result (λ keys. AreKeysInOrder (map (λ one. one.key) keys.items)) }

@@ -1,4 +1,4 @@
-//! Keys, as questions to records in their order.
+//! Keys, as questions to records in order.
 
 ghost use Rattle.std.specs.Prelude.{◌≡◌, []};
 ghost use Rattle.std.specs.List.Sorted.{IsSortedByKey};
@@ -15,7 +15,7 @@ use archive_records::key_prefix;
 use command_queries::answer_places;
 use memory::{Heap, NoMemory};
 
-/// Keys that stand in their order.
+/// Keys in ascending order.
 #[derive(Drop)]
 pub(crate) struct AskedKeys<'k> {
     pub(crate) asked: &'k [AskedKey],
@@ -35,18 +35,18 @@ impl<'k> Selects for AskedKeys<'k> {
     }
 }
 
-/// Keys that are left, and what was told under those before them.
+/// Keys that are not answered yet, and the answers for those before them.
 #[derive(Drop)]
 pub(crate) struct KeyQuestions<'k> {
     heap: Heap,
-    /// Whether the source frames are wanted.
+    /// Whether source frames are wanted.
     lines: bool,
     left: &'k [AskedKey],
     pub(crate) told: Vec<KeyAnswers<'k>, Heap>,
 }
 
 impl<'k> KeyQuestions<'k> {
-    /// All are left.
+    /// No key is answered yet.
     pub(crate) fn of(heap: &Heap, lines: bool, asked: &'k [AskedKey]) -> KeyQuestions<'k>
         ensures lines { result.lines ≡ lines }
         ensures left { result.left.now ≡ asked.now }

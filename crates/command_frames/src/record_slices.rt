@@ -32,7 +32,7 @@ impl<'u> Selects for UnderUuids<'u> {
     }
 }
 
-/// The rows that an archive tells under UUIDs.
+/// The rows of an archive under UUIDs.
 fn rows_under<A: Archive>(
     heap: Heap,
     archive: &A,
@@ -48,7 +48,7 @@ fn rows_under<A: Archive>(
     Ok(pool)
 }
 
-/// The lines of the slices that answer in an archive under UUIDs, and of the keys under which none does.
+/// The lines of the slices that answer in an archive under UUIDs, and of the keys without such a slice.
 pub(crate) fn slices_under<A: Archive>(
     heap: Heap,
     archive: &A,

@@ -22,8 +22,8 @@ use memory::{Heap, NoMemory};
 use text_inputs::Frame;
 use uuid::Uuid;
 
-/// The status, and the lines of the answers to frames, in their order. Each key is asked once; if `lines`, the DWARF of
-/// each slice is read once for all frames of its key.
+/// The status, and the lines of the answers to frames, in order. Each key is asked once; if `lines`, the DWARF of each
+/// slice is read once for all frames of its key.
 fn answer_frames<A: Archive>(
     heap: &Heap,
     archive: &A,
@@ -39,8 +39,7 @@ fn answer_frames<A: Archive>(
     Ok(text)
 }
 
-/// Reads the archives, and returns the status, and the lines of the answers of their join to the frames, in their
-/// order.
+/// Reads the archives, and returns the status, and the lines of the answers of their join to the frames, in order.
 fn read_and_answer<A: Archive + Drop, R: Source>(
     heap: &Heap,
     lines: bool,
@@ -66,8 +65,8 @@ fn read_and_answer<A: Archive + Drop, R: Source>(
     Ok(text)
 }
 
-/// The status, and the lines of the answers of an archive to frames, and after them those of the slices that answer
-/// under UUIDs.
+/// The status, and the lines of the answers of an archive to frames, followed by those of the slices that answer under
+/// UUIDs.
 fn answers_then_slices<A: Archive>(
     heap: &Heap,
     archive: &A,
@@ -86,7 +85,7 @@ fn answers_then_slices<A: Archive>(
     Ok((status, text))
 }
 
-/// Reads the archives, and returns the status, and the lines of the answers of their join to the frames, and after them
+/// Reads the archives, and returns the status, and the lines of the answers of their join to the frames, followed by
 /// those of the slices that answer under the UUIDs of keys.
 fn read_and_answer_with_slices<A: Archive + Drop, R: Source>(
     heap: &Heap,
@@ -109,8 +108,8 @@ fn read_and_answer_with_slices<A: Archive + Drop, R: Source>(
     Ok(told)
 }
 
-/// The status, and the lines of the answers to frames, and if `slices` those of the slices that answer under the UUIDs
-/// of keys.
+/// The status, and the lines of the answers to frames; if `slices`, followed by those of the slices that answer under
+/// the UUIDs of keys.
 fn frames_text<A: Archive + Drop, R: Source>(
     heap: &Heap,
     lines: bool,
@@ -134,13 +133,13 @@ fn frames_text<A: Archive + Drop, R: Source>(
     }
 }
 
-/// The status, and the lines of the answers of the join of archives to frames, in their order, and if `slices` those of
-/// the slices that answer under the UUIDs of keys. The archives are read one after another, each in one pass. Of one
-/// archive the slices under one key are held at a time, and with `slices` all slices under these UUIDs; of several all
-/// slices under the keys of the frames. If `lines`, what each slice answers is followed by the source frames of the
-/// address in it.
+/// The status, and the lines of the answers of the join of archives to frames, in order; if `slices`, followed by those
+/// of the slices that answer under the UUIDs of keys. The archives are read one after another, each in one pass. With
+/// one archive, the slices of one key are in memory at a time, and with `slices` all slices under these UUIDs; with
+/// several archives, all slices under the keys of the frames. If `lines`, the answer of each slice is followed by the
+/// source frames of the address in it.
 ///
-/// The status is `Done` where each answer is one symbol, and else `Partial`.
+/// The status is `Done` if each answer is one symbol, and else `Partial`.
 ///
 /// # Errors
 ///

@@ -1,4 +1,4 @@
-//! The lines of what is told of frames, and of the keys that are refused.
+//! The lines of the answers for frames, and of refused keys.
 
 ghost use Rattle.std.specs.Prelude.{◌≡◌, ◌++◌, IfOk, OnOk, string_bytes};
 ghost use Rattle.std.specs.Option.{option_to_list};
@@ -20,7 +20,7 @@ use text_inputs::Frame;
 use text_reports::Text;
 use text_values::Address;
 
-/// Where what is told of a frame stands: under its key, and the number of its place there.
+/// The answers that have the answer for a frame: those of its key, and the number of its address there.
 fn reply_at<'t, 'k>(told: &'t [KeyAnswers<'k>], frame: &Frame) -> (&'t KeyAnswers<'k>, usize)
     requires order { AreInOrder (asked_in told.now) }
     requires there { HasAsked (asked_in told.now) (key_bytes frame.now.key)
@@ -44,7 +44,7 @@ fn reply_at<'t, 'k>(told: &'t [KeyAnswers<'k>], frame: &Frame) -> (&'t KeyAnswer
     (one, number)
 }
 
-/// How a command ends that ends so for one frame and so for another.
+/// The joint status of two frames.
 fn status_with(status: Status, other: Status) -> Status
     ensures { result ≡ status_with status other }
 {
@@ -59,8 +59,8 @@ fn status_with(status: Status, other: Status) -> Status
     }
 }
 
-/// Writes the reply of this number to an address: an answer, or a mark if the key is refused. Gives how a command ends
-/// that printed it.
+/// Writes the reply with this number to an address: an answer, or a mark if the key is refused. Returns the status
+/// after it.
 fn push_reply(
     text: &mut String<Heap>,
     status: Status,
@@ -86,7 +86,7 @@ fn push_reply(
     }
 }
 
-/// The lines of the replies to frames, in their order, with how a command ends that prints them.
+/// The lines of the replies to frames, in order, with the status of a command that prints them.
 pub(crate) fn answer_frames_by_keys(
     heap: Heap,
     told: &[KeyAnswers<'_>],
@@ -105,7 +105,7 @@ pub(crate) fn answer_frames_by_keys(
     Ok((status, text.into_bytes()))
 }
 
-/// Writes the line of a key that is refused.
+/// Writes the line of a refused key; nothing if the key is not refused.
 fn push_refusal(text: &mut String<Heap>, key: SliceKey, told: &KeyReply) -> Result<(), NoMemory>
     ensures { OnOk result (string_bytes text.new ≡ string_bytes text.old
         ++ refusal_lines (option_to_list (refusal_in key told.now))) }
@@ -121,7 +121,7 @@ fn push_refusal(text: &mut String<Heap>, key: SliceKey, told: &KeyReply) -> Resu
     }
 }
 
-/// The lines of the keys that are refused, in their order.
+/// The lines of the refused keys, in order.
 pub(crate) fn refused_lines(heap: Heap, told: &[KeyAnswers<'_>]) -> Result<String<Heap>, NoMemory>
     ensures { IfOk result (λ text. string_bytes text ≡ refusal_lines (refusals_in told.now)) }
 {

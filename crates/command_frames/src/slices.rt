@@ -17,7 +17,7 @@ use memory::{Heap, NoMemory};
 use text_reports::slices_lines;
 use uuid::Uuid;
 
-/// The rows of the entries under a UUID, of one index after another.
+/// The rows of the entries under a UUID, index by index.
 fn rows_in_each(heap: &Heap, uuid: Uuid, read: &[Index]) -> Result<Vec<FindRow, Heap>, NoMemory>
     ensures rows { IfOk result (λ rows. AreRowsAmong (is_under uuid) (all_of read.now) rows.items) }
     ensures long { length uuid ≡ 16 }
@@ -44,7 +44,7 @@ fn rows_under(heap: &Heap, uuids: &[Uuid], read: &[Index]) -> Result<Vec<FindRow
     Ok(rows)
 }
 
-/// The lines of the slices that answer under these keys, and of the keys under which none does.
+/// The lines of the slices that answer under these keys, and of the keys without such a slice.
 fn slices_text(heap: &Heap, keys: &[SliceKey], read: &[Index]) -> Result<String<Heap>, NoMemory>
     ensures { IfOk result (λ text.
         TellsSlices (IsAnsweringEntryRow read.now keys.now) keys.now (string_bytes text)) }
@@ -54,7 +54,7 @@ fn slices_text(heap: &Heap, keys: &[SliceKey], read: &[Index]) -> Result<String<
     slices_lines(heap.share(), &pool, keys)
 }
 
-/// The lines of answers, and after them those of the slices and of what is refused, if they are wanted.
+/// The lines of answers; if they are wanted, followed by those of the slices and of refusals.
 pub(crate) fn with_slices(
     heap: &Heap,
     slices: bool,

@@ -14,7 +14,7 @@ use command_common::{CommandFault, Status, write_report_bytes};
 use memory::{Heap, NoMemory};
 use text_inputs::Frame;
 
-/// The frames that address arguments are, in their order.
+/// The frames of address arguments, in order.
 fn frames_under_key(
     heap: Heap,
     key: SliceKey,
@@ -33,17 +33,16 @@ fn frames_under_key(
         .collect(heap)
 }
 
-/// Writes what the evidence answers for each address to the report, in their order. They are addresses of the image
-/// where it was loaded, if `load` says where that was, and else of its file. If `lines`, what each slice answers is
-/// followed by the source frames of the address in it. If `slices`, the lines of the slices that answer under the UUID
-/// follow, and the key's if none does under it.
+/// Writes to the report the answer of the evidence for each address, in order. They are addresses of the image as
+/// loaded at `load`, if given, and else of its file. If `lines`, the answer of each slice is followed by the source
+/// frames of the address in it. If `slices`, the lines of the slices that answer under the UUID follow, and the line of
+/// the key if none answers under it.
 ///
-/// The status is `Done` where each answer is one symbol, `SomeRefused` where a key is refused alone,
-/// and else `Partial`.
+/// The status is `Done` if each answer is one symbol, `SomeRefused` if a key is refused alone, and else `Partial`.
 ///
 /// # Errors
 ///
-/// `Input` for the first input that is refused; `Report` where the report failed; `OutOfMemory`.
+/// `Input` for the first input that is refused; `Report` if the report failed; `OutOfMemory`.
 pub fn run_symbolicate<A: Archive + Drop, E: FrameEvidence, P: Sink>(
     heap: Heap,
     evidence: &mut E,

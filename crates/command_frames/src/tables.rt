@@ -24,7 +24,7 @@ use index_lookup::{AnswerFault, Answers, answer_among, answering_entries};
 use memory::{Heap, NoMemory};
 use text_reports::push_answer;
 
-/// A fault of asking tables, as a command tells it.
+/// The fault of a command for a fault of asking tables.
 fn refusal(fault: AnswerFault) -> CommandFault
     ensures { result ≡ command_fault fault }
 {
@@ -46,16 +46,16 @@ fn refusal(fault: AnswerFault) -> CommandFault
     }
 }
 
-/// What came of asking under a key.
+/// The reply under a key.
 #[derive(Drop)]
 pub(crate) enum KeyReply {
-    /// The answers to the places that were asked for, in their order.
+    /// The answers for the addresses that were asked for, in order.
     Told(Vec<PlaceAnswer, Heap>),
-    /// The key is refused: a table was changed, or has no lines; or a slice was changed.
+    /// The key is refused: a table was changed or has no lines, or a slice was changed.
     Refused(InputName, Why),
 }
 
-/// What comes of a fault of asking tables. If slices are wanted, a fault of the key alone refuses the key.
+/// The result after a fault of asking tables. If slices are wanted, a fault of the key alone refuses the key.
 fn reply_to_fault(slices: bool, fault: AnswerFault) -> Result<Option<KeyReply>, CommandFault>
     ensures { result ≡ reply_to_fault slices fault }
 {
@@ -93,7 +93,7 @@ fn borrowed_lists<'l, 'f>(
     Ok(borrowed)
 }
 
-/// Writes an answer to an address, which stands at this number of what is told, and if lines are wanted its frames.
+/// Writes the answer with this number to an address, and if lines are wanted its frames.
 fn push_table_answer(
     heap: &Heap,
     text: &mut String<Heap>,
@@ -111,7 +111,7 @@ fn push_table_answer(
     push_answer(heap, text, address, answer, &borrowed)
 }
 
-/// The answer of this number to a place, with its lines.
+/// The answer with this number for an address, with its lines.
 fn table_answer(
     heap: &Heap,
     answers: &Answers,
@@ -136,7 +136,7 @@ fn table_answer(
     Ok(PlaceAnswer { status, text })
 }
 
-/// The answers to the places that were asked for, with their lines.
+/// The answers for the addresses that were asked for, with their lines.
 fn table_answers(
     heap: &Heap,
     answers: &Answers,
@@ -153,9 +153,9 @@ fn table_answers(
     Ok(told)
 }
 
-/// What the tables of indexes that were read tell of places under a key, and if lines are wanted their frames; or none,
-/// if of two slices in two archives no entry says which comes first. If slices are wanted, a table that was changed, or
-/// has no lines, refuses the key alone.
+/// The answers for addresses under a key by the tables of the indexes that were read, with frames if lines are wanted;
+/// or `None`, if two slices are in two archives and no entry decides which comes first. If slices are wanted, a table
+/// that was changed or has no lines refuses the key alone.
 pub(crate) fn answer_by_tables<I: Placed>(
     heap: &Heap,
     read: &[Index],

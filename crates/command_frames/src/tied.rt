@@ -1,4 +1,4 @@
-//! The answers of the slices that indexes name under a key, where two of these are tied.
+//! The answers of the slices that indexes name under a key, if two of these are tied.
 
 ghost use Rattle.std.specs.Prelude.{◌≡◌, ◌∷◌, [], length};
 ghost use Rattle.archive_core.specs.Key.{key_bytes};
@@ -27,7 +27,7 @@ fn is_stale_entry(why: Why) -> bool
     }
 }
 
-/// What comes of a fault of reading slices. If slices are wanted, one that changed refuses the key alone.
+/// The result after a fault of reading slices. If slices are wanted, a changed slice refuses the key alone.
 fn reply_to_unread(slices: bool, fault: CommandFault) -> Result<KeyReply, CommandFault>
     ensures { result ≡ reply_to_unread slices fault }
 {
@@ -45,9 +45,9 @@ fn reply_to_unread(slices: bool, fault: CommandFault) -> Result<KeyReply, Comman
     }
 }
 
-/// What the slices that indexes name under a key tell of places, and if lines are wanted their frames. No slice of
-/// another key is read. If slices are wanted, one that changed refuses the key alone; an archive of another length, and
-/// a device, refuse all.
+/// The answers for addresses by the slices that indexes name under a key, with frames if lines are wanted. No slice of
+/// another key is read. If slices are wanted, a changed slice refuses the key alone; an archive of another length, and
+/// a failed device, refuse all keys.
 pub(crate) fn answer_by_slices<A: Archive + Drop, P: Placed>(
     heap: &Heap,
     read: &[Index],

@@ -14,6 +14,6 @@ find_at index archive uuid = prints_rows find_lines (rows_at index archive uuid)
 abbrev pub find_together : {I P : Type 0} → List (Reader I) → List (Reader P) → List ℕ → Query
 find_together indexes archives uuid = prints_rows find_lines (rows_joined indexes archives uuid)
 
--- `find`, over as many archives as indexes
+-- `find`, over archives with one index each
 abbrev pub find_by : {I P : Type 0} → List (Reader I) → List (Reader P) → List ℕ → Query
 find_by indexes archives uuid = prints_rows find_lines (rows_by indexes archives uuid)

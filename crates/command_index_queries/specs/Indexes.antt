@@ -1,4 +1,4 @@
--- Archives with their indexes: the entries of an index, and which of the two is refused, and why.
+-- Archives with their indexes: the entries of an index, and which of the two is refused and why.
 use Rattle.std.specs.Prelude.{◌≡◌, ◌≢◌, ℕ, List, None, Err, ◌⊎◌}
 use Rattle.archive_core.specs.Summary.{Entries}
 use Rattle.index_format.specs.Index.{AreIndexEntries}
@@ -17,24 +17,24 @@ use Rattle.command_common.specs.declared.faults.Why.TheVariants.{Take, Script, B
 use Rattle.command_common.specs.declared.faults.Why.TheVariants.{Index as IndexFaulty, Stale, Damaged, NoArchive}
 use Rattle.command_common.specs.declared.faults.Why.TheVariants.{NoIndex, NoLines}
 
--- The input is an index with these entries, where its bytes are known.
+-- The input is an index with these entries, if its bytes are known.
 abbrev pub HoldsTables : {S : Type 0} → Reader S → List (List ℕ) → Type 0
 HoldsTables input all = Gives input (λ text. IsIndexText text all)
 
--- The input is an index, and its entries say this of records.
+-- The input is an index, and these are its entries of records.
 pub record HoldsIndex {S : Type 0} (input : Reader S) (entries : Entries) : Type 0 where
   pub are : AreIndexEntries entries
   pub all : List (List ℕ)
   pub holds : HoldsTables input all
   pub placed : entries ≡ placed_of all
 
--- why an index is not read: reading it is refused for this fault, which is not a lack of memory
+-- why an index is not read: reading it is refused for this fault, which is not lack of memory
 abbrev pub IsUnreadIndex : {S : Type 0} → Reader S → Why → Type 0
 IsUnreadIndex input why =
     (fault : IndexFault) × (why ≡ IndexFaulty fault) × (fault.kind ≢ IndexOutOfMemory)
     × ReadsIndex input.left input.failures input.old input.new (Err fault)
 
--- why an archive is not read by its index: its device failed, and the fault tells such an offset
+-- why an archive is not read by its index: its device failed, and the fault has an offset that satisfies `IsRead`
 abbrev pub IsUnreadAt : {S : Type 0} → (ℕ → Type 0) → Reader S → Why → Type 0
 IsUnreadAt IsRead archive NotOpened = ⊥
 IsUnreadAt IsRead archive CannotRead = ⊥
@@ -52,24 +52,24 @@ IsUnreadAt IsRead archive (NoLines _) = ⊥
 IsUnreadAt IsRead archive NoArchive = ⊥
 IsUnreadAt IsRead archive NoIndex = ⊥
 
--- INDEX says these entries, and ARCHIVE has the length that they tell.
+-- INDEX has these entries, and ARCHIVE has the length stated there.
 pub record IsIndexOf {R S : Type 0} (index : Reader R) (archive : Reader S) (entries : Entries) : Type 0 where
   pub index_is : HoldsIndex index entries
   pub archive_is : Gives archive (HasIndexedLength entries)
 
--- the archive has another length than the index tells
+-- the archive has another length than the index states
 abbrev pub HasOtherLength : {S : Type 0} → Reader S → Entries → Type 0
 HasOtherLength archive entries = Gives archive (λ text. HasIndexedLength entries text → ⊥)
 
--- An archive whose length is compared with that of its index, which have this number on the command line, is refused:
--- its device failed, which is told at 0; or it did not, and the archive has another length.
+-- The archive with this number on the command line is refused when its length is compared with that in its index: its
+-- device failed, which is reported at offset 0; or its device did not fail, and it has another length.
 abbrev pub IsOfOtherLength : {S : Type 0} → ℕ → Reader S → Entries → InputName → Why → Type 0
 IsOfOtherLength number archive entries at why =
     ((at ≡ Archive number) × IsUnreadAt (λ offset. offset ≡ 0) archive why)
     ⊎ ((at ≡ Index number) × Unfailed archive × (why ≡ Stale None) × HasOtherLength archive entries)
 
--- An archive with its index, which have this number on the command line, is refused: INDEX is refused, and ARCHIVE is
--- untouched; or INDEX says entries, its reader does not fail, and ARCHIVE is refused.
+-- An archive with its index, both with this number on the command line, is refused: INDEX is refused, and ARCHIVE is
+-- unchanged; or INDEX has entries, its reader does not fail, and ARCHIVE is refused.
 abbrev pub IsRefusedByIndex : {R S : Type 0} → ℕ → Reader R → Reader S → InputName → Why → Type 0
 IsRefusedByIndex number index archive at why =
     ((at ≡ Index number) × IsUnreadIndex index why × IsUntouched archive)

@@ -16,8 +16,8 @@ use Rattle.command_common.specs.declared.faults.Why.TheVariants as why
 use Rattle.command_index_queries.specs.Prefixes.{AreNamedUnder, HoldsNamed, IsStaleUnder, IsUnnamedUnder}
 use Rattle.command_index_queries.specs.Together.{AreNamedBy, merged_each}
 
--- each entry under each of these prefixes names one of the records of its group, in their order, and the groups stand
--- after what was gathered
+-- each entry under each of these prefixes names one of the records of its group, in order, and the groups follow the
+-- records that were gathered before
 pub record HaveGathered (whole : Option (List ℕ)) (prefixes : List (List ℕ)) (entries : Entries)
     (old new : List (List ℕ)) : Type 0 where
   pub groups : List (List (List ℕ))
@@ -25,41 +25,41 @@ pub record HaveGathered (whole : Option (List ℕ)) (prefixes : List (List ℕ))
       AllZip (IsNamedBy text) (entries_under prefix entries) records) prefixes groups)
   pub behind : new ≡ old ++ flat_map (λ records. records) groups
 
--- why nothing was gathered: an entry names no record
+-- why no records were gathered: an entry names no record
 abbrev pub IsFaultAmong : List (List ℕ) → Entries → List ℕ → PlaceFault → Type 0
 IsFaultAmong prefixes entries text (Stale None) = ⊥
 IsFaultAmong prefixes entries text (Stale (Some entry)) = IsUnnamedUnder prefixes entries text entry
 IsFaultAmong prefixes entries text (Device offset) = Unit {0}
 IsFaultAmong prefixes entries text OutOfMemory = Unit {0}
 
--- what the entries under these prefixes name was joined to the content
+-- the records that the entries under these prefixes name were joined to the content
 pub record HasJoinedNamed (whole : Option (List ℕ)) (prefixes : List (List ℕ)) (entries : Entries)
     (old new : Operations) : Type 0 where
   pub parts : List Operations
   pub content : new ≡ merged old parts
   pub named : IfSome whole (λ text. AreNamedUnder prefixes entries text parts)
 
--- the same of an input, which has the length that the entries tell
+-- the same for an input, which has the length that the entries state
 pub record IsNamedIn {S : Type 0} (archive : Reader S) (prefixes : List (List ℕ)) (entries : Entries)
     (old new : Operations) : Type 0 where
   pub parts : List Operations
   pub content : new ≡ merged old parts
   pub named : HoldsNamed prefixes archive entries parts
 
--- why it was not
+-- why they were not
 abbrev pub IsFaultUnder : List (List ℕ) → Entries → List ℕ → PlaceFault → Type 0
 IsFaultUnder prefixes entries text (Stale entry) = IsStaleUnder prefixes entries text entry
 IsFaultUnder prefixes entries text (Device offset) = Unit {0}
 IsFaultUnder prefixes entries text OutOfMemory = Unit {0}
 
--- the same, as it is told of the archive with this number
+-- the same, as a fault of the archive with this number
 abbrev pub told_fault : ℕ → PlaceFault → CommandFault
 told_fault number (Stale entry) = command.Input (inputs.Index number) (why.Stale entry)
 told_fault number (Device offset) =
     command.Input (inputs.Archive number) (why.Record (record { kind = DeviceFailed; offset = offset }))
 told_fault number OutOfMemory = command.OutOfMemory
 
--- what entries name in each of these archives was joined
+-- the records that entries name in each of these archives were joined
 pub record HaveJoinedGroups {P : Type 0} (prefixes : List (List ℕ)) (archives : List (Reader P))
     (all : List (List (List ℕ))) (old new : Operations) : Type 0 where
   pub groups : List (List Operations)

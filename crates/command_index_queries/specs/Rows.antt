@@ -1,4 +1,4 @@
--- The rows that an index has.
+-- The rows of an index.
 use Rattle.std.specs.Prelude.{◌≡◌, List, ℕ, Bool, true, Contains, take, drop, slice_index}
 use Rattle.std.specs.List.{AllZip, list_any}
 use Rattle.std.specs.List.Sorted.{IsPermutation, IsSortedBy, IsStableBy}
@@ -11,7 +11,7 @@ use Rattle.archive_core.specs.declared.find.FindRow.{FindRow}
 use Rattle.index_format.specs.Entry.{dsym_byte, offset_in, tag_byte}
 use Rattle.index_format.specs.Places.{entries_under}
 
--- the row that an entry tells: its key and digest, and by its tag and kind a retirement, an image or a companion
+-- the row of an entry: its key and digest, and by its tag and kind a retirement, an image or a companion
 pub record IsEntryRow (entry : List ℕ) (row : FindRow) : Type 0 where
   pub is_key : IsKey row.key
   pub key_is : key_bytes row.key ≡ take 24 (drop 1 entry)
@@ -19,7 +19,7 @@ pub record IsEntryRow (entry : List ℕ) (row : FindRow) : Type 0 where
   pub tag_is : tag_byte row.state ≡ slice_index entry 0
   pub kind_is : dsym_byte row.state ≡ slice_index entry 57
 
--- the record of the first entry stands before that of the second
+-- the record of the first entry is at a lower offset than that of the second
 abbrev pub stands_before : List ℕ → List ℕ → Bool
 stands_before a b = is_lt (nat_cmp (offset_in a) (offset_in b))
 
@@ -27,8 +27,8 @@ stands_before a b = is_lt (nat_cmp (offset_in a) (offset_in b))
 abbrev pub has_lower_key : FindRow → FindRow → Bool
 has_lower_key a b = is_lt (slice_cmp nat_cmp (key_bytes a.key) (key_bytes b.key))
 
--- The rows of the entries under a prefix, a UUID or an empty one: by key, and those of a key in the order in which
--- their records stand.
+-- The rows of the entries under a prefix, a UUID or the empty one: by key, and those of a key by the offsets of their
+-- records.
 pub record AreIndexRows (prefix : List ℕ) (entries : Entries) (rows : List FindRow) : Type 0 where
   pub placed : List (List ℕ)
   pub moved : IsPermutation (entries_under prefix entries) placed

@@ -1,4 +1,4 @@
--- The reports of commands over archives that are asked together by their indexes.
+-- The reports of commands over several archives with their indexes.
 use Rattle.std.specs.Prelude.{ℕ, List, ◌⊎◌}
 use Rattle.archive_core.specs.Content.{Operations}
 use Rattle.command_common.specs.Inputs.{Reader, EachUnfailed}
@@ -8,7 +8,7 @@ use Rattle.command_common.specs.declared.faults.Why.{Why}
 use Rattle.command_index_queries.specs.Together.{AreLater, AreReadWith, HoldNamed, IsFirstRefusedAtPlaces}
 use Rattle.command_index_queries.specs.Together.{IsFirstRefusedByIndex}
 
--- The indexes were read, and their archives, which stood so after that, hold this content under these prefixes.
+-- The indexes were read, and their archives, in the states after that, have this content under these prefixes.
 pub record HoldTogether {I P : Type 0} (prefixes : List (List ℕ)) (indexes : List (Reader I))
     (archives : List (Reader P)) (p : Operations) : Type 0 where
   pub all : List (List (List ℕ))
@@ -17,7 +17,7 @@ pub record HoldTogether {I P : Type 0} (prefixes : List (List ℕ)) (indexes : L
   pub are_later : AreLater archives later
   pub named : HoldNamed prefixes later all p
 
--- The indexes were read, and then one of the archives is refused, as far as these prefixes tell.
+-- The indexes were read, and then one of the archives is refused, as far as these prefixes show.
 pub record AreRefusedLater {I P : Type 0} (prefixes : List (List ℕ)) (indexes : List (Reader I))
     (archives : List (Reader P)) (at : InputName) (why : Why) : Type 0 where
   pub all : List (List (List ℕ))
@@ -27,17 +27,17 @@ pub record AreRefusedLater {I P : Type 0} (prefixes : List (List ℕ)) (indexes 
   pub are_later : AreLater archives later
   pub refused : IsFirstRefusedAtPlaces prefixes later all at why
 
--- the first of them that is refused: of the indexes and the lengths of their archives; or, after these, of the archives
+-- the first refusal: an index or the length of its archive; or, after these, an archive
 abbrev pub AreRefusedTogether : {I P : Type 0} → List (List ℕ) → List (Reader I) → List (Reader P) → InputName → Why
     → Type 0
 AreRefusedTogether prefixes indexes archives at why =
     IsFirstRefusedByIndex indexes archives at why ⊎ AreRefusedLater prefixes indexes archives at why
 
--- no reader and no device of theirs failed
+-- none of their readers and devices failed
 abbrev pub AreUnfailedTogether : {I P : Type 0} → List (Reader I) → List (Reader P) → Type 0
 AreUnfailedTogether indexes archives = EachUnfailed indexes × EachUnfailed archives
 
--- what is joined under these prefixes tells this
+-- `Tells` holds for the joined content under these prefixes
 pub record MakesTogether {I P : Type 0} (prefixes : List (List ℕ)) (indexes : List (Reader I))
     (archives : List (Reader P)) (Tells : Operations → Status → List ℕ → Type 0) (status : Status) (text : List ℕ)
     : Type 0 where

@@ -1,4 +1,4 @@
--- Archives that are asked together by their indexes: read, and which of them is refused first.
+-- Several archives with their indexes: reading them, and which of them is refused first.
 use Rattle.std.specs.Prelude.{◌≡◌, ℕ, ◌+◌, List, [], ◌∷◌, Some, Option, fold, map, take, drop, slice_get, ◌⊎◌}
 use Rattle.std.specs.List.{AllZip}
 use Rattle.std.specs.FinSet as set
@@ -14,22 +14,22 @@ use Rattle.command_common.specs.declared.faults.Why.TheVariants.{Stale}
 use Rattle.command_index_queries.specs.Prefixes.{HoldsNamed, IsReadFor, IsStaleFor}
 use Rattle.command_index_queries.specs.Indexes.{HoldsTables, IsRefusedByIndex, IsUnreadAt}
 
--- three lists have the same length, and this is true of those at each place
+-- the three lists have the same length, and the relation holds at each index
 abbrev pub AllThree : {X Y Z : Type 0} → (X → Y → Z → Type 0) → List X → List Y → List Z → Type 0
 AllThree R [] [] [] = Unit {0}
 AllThree R (x ∷ xs) (y ∷ ys) (z ∷ zs) = R x y z × AllThree R xs ys zs
 AllThree R xs ys zs = ⊥
 
--- INDEX says these entries, and ARCHIVE has the length that they tell.
+-- INDEX has these entries, and ARCHIVE has the length stated there.
 pub record IsReadWith {I P : Type 0} (index : Reader I) (archive : Reader P) (all : List (List ℕ)) : Type 0 where
   pub index_is : HoldsTables index all
   pub archive_is : Gives archive (HasIndexedLength (placed_of all))
 
--- the indexes say these entries, and their archives have the lengths that they tell
+-- the indexes have these entries, and their archives have the lengths stated there
 abbrev pub AreReadWith : {I P : Type 0} → List (Reader I) → List (Reader P) → List (List (List ℕ)) → Type 0
 AreReadWith indexes archives all = AllThree IsReadWith indexes archives all
 
--- The input of this number: the readers before it did not fail, and those after it are untouched.
+-- The input with this number: the readers before it did not fail, and those after it are unchanged.
 pub record IsOneOf {S : Type 0} (inputs : List (Reader S)) (number : ℕ) (input : Reader S) : Type 0 where
   pub unfailed : EachUnfailed (take number inputs)
   pub is : slice_get inputs number ≡ Some input
@@ -57,47 +57,47 @@ IsKept left failures old new = (left new ≡ left old) × (failures new ≡ fail
 abbrev pub HaveSameBytes : {S : Type 0} → (S → Option (List ℕ)) → List S → List S → Type 0
 HaveSameBytes left old new = map left new ≡ map left old
 
--- so it is with each of these, as many
+-- the same holds for each of these; the lists have one length
 abbrev pub AreAllKept : {S : Type 0} → (S → Option (List ℕ)) → (S → ℕ) → List S → List S → Type 0
 AreAllKept left failures old new = AllZip (IsKept left failures) old new
 
--- The same input from a later state on, up to which it was kept.
+-- The same input from a later state on; it was kept until then.
 pub record IsLater {S : Type 0} (first later : Reader S) : Type 0 where
   pub left_is : later.left ≡ first.left
   pub failures_is : later.failures ≡ first.failures
   pub new_is : later.new ≡ first.new
   pub kept : IsKept first.left first.failures first.old later.old
 
--- so it is with each of these
+-- the same holds for each of these
 abbrev pub AreLater : {S : Type 0} → List (Reader S) → List (Reader S) → Type 0
 AreLater firsts laters = AllZip IsLater firsts laters
 
--- what the entries of each name in its archive under these prefixes makes these contents
+-- for each archive, the records that its entries name under these prefixes make these contents
 abbrev pub AreNamedBy : {P : Type 0} → List (List ℕ) → List (Reader P) → List (List (List ℕ)) → List (List Operations)
     → Type 0
 AreNamedBy prefixes archives all groups =
     AllThree (λ archive entries parts. HoldsNamed prefixes archive (placed_of entries) parts) archives all groups
 
--- a content with groups of others, one joined after another
+-- a content joined with groups of others, in order
 abbrev pub merged_each : Operations → List (List Operations) → Operations
 merged_each o groups = fold merged o groups
 
--- The join of what these entries name in their archives under these prefixes is this content.
+-- This content is the join of the records that these entries name in their archives under these prefixes.
 pub record HoldNamed {P : Type 0} (prefixes : List (List ℕ)) (archives : List (Reader P)) (all : List (List (List ℕ)))
     (p : Operations) : Type 0 where
   pub groups : List (List Operations)
   pub named : AreNamedBy prefixes archives all groups
   pub content_is : p ≡ merged_each set.empty groups
 
--- An archive is refused at the places that its index names: its device failed, at 0 where its length was asked for,
--- or at the record that was read; or it did not, and an entry names no record; or it has another length by now.
+-- An archive is refused at the offsets in its index: its device failed, reported at offset 0 for its length, or at the
+-- record that was read; or its device did not fail, and an entry names no record, or it has another length by now.
 abbrev pub IsRefusedAtPlaces : {P : Type 0} → List (List ℕ) → ℕ → Reader P → List (List ℕ) → InputName → Why → Type 0
 IsRefusedAtPlaces prefixes number archive entries at why =
     ((at ≡ Archive number) × IsUnreadAt (IsReadFor prefixes (placed_of entries)) archive why)
     ⊎ ((at ≡ Index number) × Unfailed archive
     × ((entry : Option ℕ) × (why ≡ Stale entry) × IsStaleFor prefixes archive (placed_of entries) entry))
 
--- One of these archives is refused so; those before it are not.
+-- One of these archives is refused at the offsets in its index; those before it are not.
 pub record IsFirstRefusedAtPlaces {P : Type 0} (prefixes : List (List ℕ)) (archives : List (Reader P))
     (all : List (List (List ℕ))) (at : InputName) (why : Why) : Type 0 where
   pub number : ℕ

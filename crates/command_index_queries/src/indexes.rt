@@ -1,4 +1,4 @@
-//! Archives that are asked by their indexes.
+//! Archives that are read by their indexes.
 
 ghost use Rattle.std.specs.Prelude.{◌≡◌, ◌<◌, [], length};
 ghost use Rattle.command_common.specs.Inputs.{ReadsInputs, reader, readers};
@@ -16,17 +16,17 @@ use command_common::{CommandFault, Evidence, uuid_bytes};
 use memory::Heap;
 use uuid::Uuid;
 
-/// Archives and their indexes, in the order of the command line. Of an archive its length is read, and the slices that
-/// its index names, if they are asked for.
+/// Archives and their indexes, in the order of the command line. The length of an archive is read, and the slices that
+/// its index names, if they are needed.
 #[derive(Drop)]
 pub struct Indexes<'a, I, P> {
     /// The index of each archive.
     pub indexes: &'a mut [I],
-    /// As many.
+    /// The archives, as many as the indexes.
     pub archives: &'a mut [P],
 }
 
-/// The rows of the entries of an index under a prefix, a UUID or an empty one.
+/// The rows of the entries of an index under a prefix: a UUID, or the empty one.
 fn rows_at<I: Placed, P: Placed>(
     heap: Heap,
     index: &mut I,
@@ -41,7 +41,7 @@ fn rows_at<I: Placed, P: Placed>(
     Ok(rows_under(&heap, prefix, &entries)?)
 }
 
-/// The rows under a UUID of what the indexes of archives name there.
+/// The rows under a UUID of the slices that the indexes of archives name there.
 fn rows_joined<A: Archive + Drop, I: Placed, P: Placed>(
     heap: Heap,
     indexes: &mut [I],
@@ -57,7 +57,7 @@ fn rows_joined<A: Archive + Drop, I: Placed, P: Placed>(
     Ok(kept.find(uuid)?)
 }
 
-/// The rows under a UUID: of one archive by entries alone.
+/// The rows under a UUID; for one archive by entries alone.
 fn find_by<A: Archive + Drop, I: Placed, P: Placed>(
     heap: Heap,
     indexes: &mut [I],
@@ -96,7 +96,7 @@ fn list_first<I: Placed, P: Placed>(
     }
 }
 
-/// The summary that an index tells.
+/// The summary of an index.
 fn summary_at<I: Placed, P: Placed>(
     heap: Heap,
     index: &mut I,

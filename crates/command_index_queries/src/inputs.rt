@@ -1,4 +1,4 @@
-//! An index that is read, and the archive that it is of.
+//! Reading an index, and comparing it with its archive.
 
 ghost use Rattle.std.specs.Prelude.{◌≡◌, ◌≢◌, OnOk};
 ghost use Rattle.index_format.specs.Index.{AreIndexEntries};
@@ -21,7 +21,7 @@ use command_common::{CommandFault, InputName, Why};
 use index_format::{Index, IndexFault, IndexFaultKind, PlaceFault, indexed_size, read_index};
 use memory::Heap;
 
-/// The refusal of an index, whose text has this fault or whose device failed.
+/// The refusal of an index whose text has this fault, or whose device failed.
 fn refusal(number: u64, fault: IndexFault) -> CommandFault
     ensures { IsRefusal (λ at why. (at ≡ IndexPlace number) × (why ≡ IndexFaulty fault)
         × (fault.kind ≢ IndexOutOfMemory)) (fault.kind ≡ IndexOutOfMemory) result }
@@ -32,7 +32,7 @@ fn refusal(number: u64, fault: IndexFault) -> CommandFault
     }
 }
 
-/// The refusal of the archive with this number, whose device failed while what begins at this offset was read.
+/// The refusal of the archive with this number, whose device failed in the read that begins at this offset.
 pub(crate) fn unread(number: u64, offset: u64) -> CommandFault
     ensures { result ≡ Input (ArchivePlace number) (Record (record { kind = DeviceFailed; offset = offset })) }
 {
@@ -59,7 +59,7 @@ fn read_index_input<I: Placed>(
     }
 }
 
-/// Tests that the archive with this number on the command line has the length that its index tells.
+/// Tests that the archive with this number on the command line has the length that its index states.
 fn check_length<P: Placed>(number: u64, tables: &Index, archive: &mut P) -> Result<(), CommandFault>
     ensures entries { AreIndexEntries (placed_of tables.now) }
     ensures tests { ReadsInput (reader P.whole P.failures archive.old archive.new) result
@@ -79,8 +79,8 @@ fn check_length<P: Placed>(number: u64, tables: &Index, archive: &mut P) -> Resu
     }
 }
 
-/// Reads the index of an archive, and tests that this has the length that it tells. Both have this number on the
-/// command line.
+/// Reads the index of an archive, and tests that the archive has the length that it states. Both have this number on
+/// the command line.
 pub(crate) fn read_matching_index<I: Placed, P: Placed>(
     heap: &Heap,
     number: u64,
@@ -99,7 +99,7 @@ pub(crate) fn read_matching_index<I: Placed, P: Placed>(
     Ok(tables)
 }
 
-/// Reads the index of the first archive, and tests that this has the length that it tells.
+/// Reads the index of the first archive, and tests that the archive has the length that it states.
 pub(crate) fn read_first_index<I: Placed, P: Placed>(
     heap: &Heap,
     index: &mut I,

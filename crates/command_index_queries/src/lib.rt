@@ -1,20 +1,21 @@
 //! Indexes of archives as inputs of a command, each read, and compared with the length of its archive; and as the
 //! evidence by which `find`, `list` and `summary` answer with `--index`, over any devices.
 //!
-//! - `inputs`: an index that is read, and the archive that it is of;
-//! - `prefixes`: [`KeyPrefix`], what a key begins with; `parts`: what an index names there, read and joined;
+//! - `inputs`: reading an index, and comparing it with its archive;
+//! - `prefixes`: [`KeyPrefix`], the first bytes of a key; `parts`: the records that an index names there, read and
+//!   joined;
 //! - `together`: indexes of several archives, read ([`read_indexes`]), and the slices that they name
 //!   ([`read_prefixes`]);
-//! - `rows`: the rows that an index tells, and those of a UUID alone ([`rows_with_uuid`]); `summaries`: the summary
-//!   that it tells;
+//! - `rows`: the rows of an index, and those of a UUID alone ([`rows_with_uuid`]); `summaries`: the summary of an
+//!   index;
 //! - `indexes`: [`Indexes`], archives with their indexes as `Evidence`.
 //!
 //! # Why it is so
 //!
-//! - All indexes are read, and compared with the lengths of their archives, before a slice is.
-//! - Of one archive the entries are read alone, and the archive's length. A search of several reads the slices of the
-//!   UUID, since slices of several archives are told in the order of their bytes.
-//! - `Stale` is said of INDEX, and not of the archive.
+//! - All indexes are read, and compared with the lengths of their archives, before any slice is read.
+//! - With one archive, only the entries and the archive's length are read. A search of several archives reads the
+//!   slices of the UUID, since the rows of several archives are in the order of the bytes of their slices.
+//! - `Stale` is reported for INDEX, not for the archive.
 #![tactic(auto)]
 
 mod indexes;

@@ -1,4 +1,4 @@
-//! What an index names in its archive, read and joined.
+//! The records that an index names in its archive, read and joined.
 
 ghost use Rattle.std.specs.Prelude.{◌≡◌, IfErr, IfSome, OnOk, map};
 ghost use Rattle.std.specs.FinSet as set;
@@ -24,7 +24,7 @@ use command_common::{CommandFault, InputName, Why, uuid_bytes};
 use index_format::{Index, PlaceFault, archive_of, gather_at, indexed_size};
 use memory::{Heap, NoMemory};
 
-/// Gathers the records under a prefix, at the places that an index names, after those that were gathered.
+/// Gathers the records under a prefix, at the offsets in an index, after those that were gathered before.
 fn gather_prefix<P: Placed>(
     heap: &Heap,
     gathered: &mut Vec<Operation, Heap>,
@@ -49,7 +49,7 @@ fn gather_prefix<P: Placed>(
     }
 }
 
-/// Gathers the records under each of these prefixes, at the places that an index names.
+/// Gathers the records under each of these prefixes, at the offsets in an index.
 fn gather_prefixes<P: Placed>(
     heap: &Heap,
     gathered: &mut Vec<Operation, Heap>,
@@ -72,7 +72,7 @@ fn gather_prefixes<P: Placed>(
     Ok(())
 }
 
-/// Joins operations that were gathered, together: a join for each prefix would go through what is there for each.
+/// Joins all gathered operations at once: a join for each prefix would traverse the kept archive each time.
 fn join_gathered<A: Archive + Drop>(
     heap: &Heap,
     kept: &mut A,
@@ -86,7 +86,7 @@ fn join_gathered<A: Archive + Drop>(
     Ok(())
 }
 
-/// Joins the records under these prefixes, at the places that an index names in an archive of the length that it tells.
+/// Joins the records under these prefixes, at the offsets in an index of an archive, which has the length stated there.
 fn join_prefixes<A: Archive + Drop, P: Placed>(
     heap: &Heap,
     kept: &mut A,
@@ -112,7 +112,7 @@ fn join_prefixes<A: Archive + Drop, P: Placed>(
     }
 }
 
-/// A fault of the archive with this number, as a command tells it.
+/// The fault that a command reports for a fault of the archive with this number.
 fn told(number: u64, fault: PlaceFault) -> CommandFault
     ensures { result ≡ told_fault number fault }
 {
@@ -126,7 +126,8 @@ fn told(number: u64, fault: PlaceFault) -> CommandFault
     }
 }
 
-/// Joins what an index names under each of these prefixes in its archive, which have this number on the command line.
+/// Joins the records that an index names in its archive under each of these prefixes. Both have this number on the
+/// command line.
 pub(crate) fn join_archive<A: Archive + Drop, P: Placed>(
     heap: &Heap,
     kept: &mut A,

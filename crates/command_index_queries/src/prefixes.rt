@@ -1,4 +1,4 @@
-//! What the keys of operations begin with, where they are asked for.
+//! The first bytes of the keys of requested operations.
 
 ghost use Rattle.std.specs.Prelude.{◌≡◌, length};
 ghost use Rattle.archive_core.specs.Key.{key_bytes};
@@ -7,10 +7,10 @@ use archive_core::SliceKey;
 use archive_records::key_prefix;
 use uuid::Uuid;
 
-/// What a key begins with.
+/// The first bytes of a key.
 #[derive(Clone, Copy)]
 pub enum KeyPrefix {
-    /// A UUID, of which there may be several keys.
+    /// A UUID, under which there may be several keys.
     Uuid(Uuid),
     /// A whole key.
     Key(SliceKey),

@@ -1,4 +1,4 @@
-//! The rows that an index tells.
+//! The rows of an index.
 
 ghost use Rattle.std.specs.Prelude.{◌≡◌, ◌<◌, ◌≤◌, ◌^◌, All, IfOk, OnOk, filter, length, map, true};
 ghost use Rattle.std.specs.List.{AllZip};
@@ -27,14 +27,14 @@ fn row_with(key: SliceKey, digest: Digest, state: FindState) -> FindRow
     FindRow { key, digest, state }
 }
 
-/// The row that an entry tells.
+/// The row of an entry.
 fn row_of(entry: &IndexEntry) -> FindRow
     ensures { IsEntryRow (placed_bytes entry.now) result }
 {
     row_with(entry.row.key, entry.row.digest, entry.row.state)
 }
 
-/// The entries under a prefix, in their order.
+/// The entries under a prefix, in order.
 fn entries_under(
     heap: Heap,
     prefix: &[u8],
@@ -53,7 +53,7 @@ fn entries_under(
     Ok(picked)
 }
 
-/// Where the record of an entry with this row stands.
+/// The offset of the record of an entry with this row.
 fn offset_with(row: FindRow, offset: u64) -> u64
     ensures offset { result ≡ offset }
     ensures fits { offset < 2 ^ 64 }
@@ -63,14 +63,14 @@ fn offset_with(row: FindRow, offset: u64) -> u64
     offset
 }
 
-/// Where the record of an entry stands.
+/// The offset of the record of an entry.
 fn offset_of(entry: &IndexEntry) -> u64
     ensures { result ≡ offset_in (placed_bytes entry.now) }
 {
     offset_with(entry.row, entry.offset)
 }
 
-/// Puts entries in the order in which their records stand.
+/// Sorts entries by the offsets of their records.
 fn sort_by_offset(entries: &mut Vec<IndexEntry, Heap>)
     ensures moved { IsPermutation (map placed_bytes entries.old.items) (map placed_bytes entries.new.items) }
     ensures sorted { IsSortedBy stands_before (map placed_bytes entries.new.items) }
@@ -78,7 +78,7 @@ fn sort_by_offset(entries: &mut Vec<IndexEntry, Heap>)
     entries.sort_unstable_by(|a, b| offset_of(a).cmp(&offset_of(b)));
 }
 
-/// The rows that entries tell, in their order.
+/// The rows of entries, in order.
 fn rows_of(heap: Heap, entries: &[IndexEntry]) -> Result<Vec<FindRow, Heap>, NoMemory>
     ensures { IfOk result (λ rows. AllZip IsEntryRow (map placed_bytes entries.now) rows.items) }
 {
@@ -89,7 +89,7 @@ fn rows_of(heap: Heap, entries: &[IndexEntry]) -> Result<Vec<FindRow, Heap>, NoM
     Ok(rows)
 }
 
-/// Puts rows in the order of their keys, and those of a key as they stood.
+/// Sorts rows by their keys; those of one key keep their order.
 fn put_by_key(rows: &mut Vec<FindRow, Heap>) -> Result<(), NoMemory>
     ensures sorted { OnOk result (IsSortedBy has_lower_key rows.new.items) }
     ensures stable { OnOk result (IsStableBy has_lower_key rows.old.items rows.new.items) }
@@ -98,8 +98,8 @@ fn put_by_key(rows: &mut Vec<FindRow, Heap>) -> Result<(), NoMemory>
     Ok(())
 }
 
-/// The rows of the entries of an index under a prefix, a UUID or an empty one: by key, and those of a key in the order
-/// in which their records stand. Fails only if memory runs out.
+/// The rows of the entries of an index under a prefix, a UUID or the empty one: by key, and those of a key by the
+/// offsets of their records. Fails only if memory runs out.
 pub(crate) fn rows_under(
     heap: &Heap,
     prefix: &[u8],
@@ -114,7 +114,7 @@ pub(crate) fn rows_under(
     Ok(rows)
 }
 
-/// The rows of the entries of one tag under a prefix, which are found by halving. None of the others is looked at.
+/// The rows of the entries with one tag under a prefix, found by binary search. No other entry is read.
 fn rows_tagged(
     heap: Heap,
     tag: u8,
@@ -131,7 +131,7 @@ fn rows_tagged(
 }
 
 /// The rows of the entries of an index under a UUID: of its retirements, and then of its admissions. They are found by
-/// halving, so they cost what is found.
+/// binary search, so the cost grows with the rows that are found.
 pub fn rows_with_uuid(
     heap: &Heap,
     uuid: Uuid,

@@ -1,4 +1,4 @@
-//! The summary that an index tells.
+//! The summary of an index.
 
 ghost use Rattle.std.specs.Prelude.{◌≡◌, ◌++◌, ◌∷◌, IfOk, length, map, take};
 ghost use Rattle.archive_core.specs.Key.{IsKey, key_bytes};
@@ -24,14 +24,14 @@ fn entry_with(key: SliceKey, digest: Digest, state: FindState) -> Entry
     }
 }
 
-/// The entry of a summary that an entry of an index has.
+/// The entry of a summary for an entry of an index.
 fn entry_of(entry: &IndexEntry) -> Entry
     ensures { entry_bytes result ≡ take 57 (placed_bytes entry.now) }
 {
     entry_with(entry.row.key, entry.row.digest, entry.row.state)
 }
 
-/// The entries of a summary that entries of an index have, in their order.
+/// The entries of a summary for entries of an index, in order.
 fn entries_of(heap: Heap, entries: &[IndexEntry]) -> Result<Vec<Entry, Heap>, NoMemory>
     ensures { IfOk result (λ made. map entry_bytes made.items ≡ map (take 57) (map placed_bytes entries.now)) }
 {
@@ -42,7 +42,7 @@ fn entries_of(heap: Heap, entries: &[IndexEntry]) -> Result<Vec<Entry, Heap>, No
     Ok(made)
 }
 
-/// The summary that an index tells. Fails only if memory runs out.
+/// The summary of an index. Fails only if memory runs out.
 pub(crate) fn summary_of(heap: Heap, index: &Index) -> Result<Summary, NoMemory>
     ensures { IfOk result (λ summary. summary ≡ summary_in (placed_of index.now)) }
 {

@@ -1,4 +1,4 @@
-//! Archives that are asked together by their indexes.
+//! Several archives that are read by their indexes.
 
 ghost use Rattle.std.specs.Prelude.{◌≡◌, IfErr, OnOk, length, map};
 ghost use Rattle.command_common.specs.Inputs.{EachUnfailed, ReadsInputs, readers};
@@ -17,8 +17,8 @@ use command_common::CommandFault;
 use index_format::Index;
 use memory::Heap;
 
-/// Reads the indexes of archives, and tests that these have the lengths that they tell, in the order of the command
-/// line: each index, and then the length of its archive. The entries are held, of all of them.
+/// Reads the indexes of archives, and tests that these have the lengths stated there, in the order of the command line:
+/// each index, and then the length of its archive. The entries of all of them are kept in memory.
 ///
 /// # Errors
 ///
@@ -49,8 +49,8 @@ pub fn read_indexes<I: Placed, P: Placed>(
     Ok(read)
 }
 
-/// Joins what is under these prefixes in each of these archives, in their order: the slices that the entries of its
-/// index name are read at their places, tested and hashed.
+/// Joins the records under these prefixes in each of these archives, in order: the slices that the entries of its index
+/// name are read at their offsets, tested and hashed.
 fn join_archives<A: Archive + Drop, P: Placed>(
     heap: &Heap,
     kept: &mut A,
@@ -81,9 +81,9 @@ fn join_archives<A: Archive + Drop, P: Placed>(
     Ok(())
 }
 
-/// Reads what archives have under these prefixes, whose indexes were read: the slices that these name, at their places,
-/// in the order of the command line. The length of each archive is compared again before that. An archive keeps its
-/// bytes also if one is refused, so that others may be read after that.
+/// Reads the records of archives under these prefixes, after their indexes were read: the slices that these name, at
+/// their offsets, in the order of the command line. The length of each archive is compared again before that. An
+/// archive keeps its bytes even if one is refused, so that others may be read after that.
 ///
 /// # Errors
 ///
@@ -108,7 +108,7 @@ pub fn read_prefixes<A: Archive + Drop, P: Placed>(
     Ok(kept)
 }
 
-/// Reads what archives have under these prefixes: all their indexes first, as [`read_indexes`] does, and then the
+/// Reads the records of archives under these prefixes: all their indexes first, as [`read_indexes`] does, and then the
 /// slices that these name, as [`read_prefixes`] does.
 ///
 /// # Errors

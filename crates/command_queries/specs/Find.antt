@@ -1,4 +1,4 @@
--- The report of `find` over archives, by their records.
+-- The report of `find` over archives, from their records.
 use Rattle.std.specs.Prelude.{ℕ, List}
 use Rattle.text_reports.specs.Finds.{find_lines}
 use Rattle.command_common.specs.Asked.{prints_rows}

@@ -19,14 +19,14 @@ use Rattle.command_queries.specs.Slices.{IsAnsweringRow, WithSlices}
 use Rattle.command_queries.specs.SourceFrames.{IsAnswerWithFrames}
 use Rattle.command_queries.specs.Symbolicate.{Answered, MakesAnswered, answers_status, answers_text, asked_of}
 
--- the row is that of the frame's address, and this is true of its answer
+-- the row is that of the frame's address, and its answer satisfies `IsSaid`
 abbrev pub IsFrameSaid : (SliceKey → Where → AnswerRecord → List (List FrameRecord) → Type 0)
     → Frame → Answered → Type 0
 IsFrameSaid IsSaid frame row =
     (row.address ≡ frame.address)
     × IsSaid frame.key (asked_of frame.load row.address) (answer_view row.answer) row.frames
 
--- Frames are answered, one answer a frame and in their order, and this is true of each.
+-- Each frame has an answer, in order, that satisfies `IsSaid`.
 pub record TellFrames (IsSaid : SliceKey → Where → AnswerRecord → List (List FrameRecord) → Type 0)
     (frames : List Frame) (status : Status) (text : List ℕ) : Type 0 where
   pub rows : List Answered
@@ -34,48 +34,49 @@ pub record TellFrames (IsSaid : SliceKey → Where → AnswerRecord → List (Li
   pub status_is : status ≡ answers_status rows
   pub text_is : text ≡ answers_text rows
 
--- the row has what the content tells of the frame's address under its key
+-- the row has the content's answer for the frame's address under its key
 abbrev pub IsFrameAnswered : Bool → Operations → Frame → Answered → Type 0
 IsFrameAnswered lines content frame row = IsFrameSaid (λ key. IsAnswerWithFrames content key lines) frame row
 
--- what a content tells of frames: the status, and the lines
+-- the answers of a content for frames: the status, and the lines
 abbrev pub TellsFrames : Bool → Operations → List Frame → Status → List ℕ → Type 0
-TellsFrames lines content frames status text = TellFrames (λ key. IsAnswerWithFrames content key lines) frames status text
+TellsFrames lines content frames status text =
+    TellFrames (λ key. IsAnswerWithFrames content key lines) frames status text
 
 -- the key of each frame
 abbrev pub frame_keys : List Frame → List SliceKey
 frame_keys frames = map (λ frame. frame.key) frames
 
--- the frames that addresses in an image are, under its key
+-- the frames of addresses in an image, under its key
 abbrev pub frames_under_key : SliceKey → Option ℕ → List ℕ → List Frame
 frames_under_key key load addresses =
     map (λ address. record { key = key; load = load; address = address }) addresses
 
 -- ---- asked of any evidence
 
--- What is asked of evidence for frames: how a command ends that prints what it tells of them under these keys, and the
--- text; which input is refused, and why; that its inputs are as they were; and that no reader fails.
+-- A question to evidence about frames: the status and the text of its answers for them under these keys; which input is
+-- refused and why; that its inputs are unchanged; and that no reader fails.
 pub record AskedOfFrames : Type 1 where
   pub Tells : List SliceKey → List Frame → Status → List ℕ → Type 0
   pub Refuses : List Frame → InputName → Why → Type 0
   pub Untouched : Type 0
   pub Unfailed : Type 0
 
--- FRAMES says these frames, and this is told of them.
+-- FRAMES is a text of these frames, and these are their status and text.
 pub record MakesFramed {Q : Type 0} (frames : Reader Q)
     (Tells : List SliceKey → List Frame → Status → List ℕ → Type 0) (status : Status) (text : List ℕ) : Type 0 where
   pub listed : List Frame
   pub frames_are : Gives frames (λ bytes. frames_of bytes ≡ Ok listed)
   pub tells : Tells (frame_keys listed) listed status text
 
--- FRAMES is refused, and no other input is touched; or FRAMES says frames, its reader does not fail, and another input
--- is refused for these
+-- FRAMES is refused, and no other input is read; or FRAMES is a text of frames, its reader does not fail, and another
+-- input is refused for these frames
 abbrev pub RefusesFrames : {Q : Type 0} → Reader Q → AskedOfFrames → InputName → Why → Type 0
 RefusesFrames frames asked at why =
     (IsRefusedFrames frames at why × asked.Untouched)
     ⊎ ((says : IsFrames frames) × Unfailed frames × asked.Refuses says.0 at why)
 
--- the command that prints what it asks for the frames of FRAMES
+-- the command that prints the answers for the frames of FRAMES
 abbrev pub prints_frames : {Q : Type 0} → Reader Q → AskedOfFrames → Query
 prints_frames frames asked = record {
   Makes = MakesFramed frames asked.Tells;
@@ -83,7 +84,7 @@ prints_frames frames asked = record {
   Unfailed = Unfailed frames × asked.Unfailed;
 }
 
--- the command that prints what it asks for addresses under a key
+-- the command that prints the answers for addresses under a key
 abbrev pub prints_addresses : AskedOfFrames → SliceKey → Option ℕ → List ℕ → Query
 prints_addresses asked key load addresses = record {
   Makes = asked.Tells (key ∷ []) (frames_under_key key load addresses);
@@ -93,8 +94,8 @@ prints_addresses asked key load addresses = record {
 
 -- ---- asked of archives, by their records
 
--- what is asked of archives for frames: what their join tells, and if they are wanted the lines of the slices that
--- answer in it
+-- the question about frames to archives: the answers of their join, and if they are wanted, the lines of the slices
+-- that answer in it
 abbrev pub frames_held : {R S : Type 0} → Bool → Bool → Reader R → List (Reader S) → AskedOfFrames
 frames_held lines slices archive others = record {
   Tells = λ keys frames status text. HoldTogether archive others
@@ -104,7 +105,7 @@ frames_held lines slices archive others = record {
   Unfailed = AreUnfailed archive others;
 }
 
--- the same of the first archive and the others; no archives tell nothing
+-- the same for the first archive and the others; without archives there is no answer
 abbrev pub frames_by_records : {S : Type 0} → Bool → Bool → List (Reader S) → AskedOfFrames
 frames_by_records lines slices [] = record {
   Tells = λ keys frames status text. ⊥;
@@ -114,7 +115,7 @@ frames_by_records lines slices [] = record {
 }
 frames_by_records lines slices (archive ∷ others) = frames_held lines slices archive others
 
--- what a content tells of frames, and if they are wanted the lines of the slices that answer
+-- the answers of a content for frames, and if they are wanted, the lines of the slices that answer
 abbrev pub TellsFramesWith : Bool → Bool → Operations → List Frame → Status → List ℕ → Type 0
 TellsFramesWith lines slices content frames status text =
     WithSlices slices (TellsFrames lines content frames) (IsAnsweringRow content (frame_keys frames))
@@ -125,12 +126,12 @@ TellsFramesWith lines slices content frames status text =
 abbrev pub frames : {R S T : Type 0} → Bool → Bool → Reader R → Reader S → List (Reader T) → Query
 frames lines slices input archive others = prints_frames input (frames_held lines slices archive others)
 
--- how `symbolicate` ends, and its lines
+-- the status of `symbolicate`, and its lines
 pub record Told : Type 0 where
   pub status : Status
   pub text : List ℕ
 
--- `symbolicate` tells this over the archives, asked for the frame's address alone
+-- `symbolicate` over the archives has this status and these lines for the frame's address alone
 abbrev pub IsToldAlone : {S T : Type 0} → Bool → Reader S → List (Reader T) → Frame → Told → Type 0
 IsToldAlone lines archive others frame told =
     MakesAnswered archive others frame.key frame.load lines false (frame.address ∷ []) told.status told.text
@@ -141,8 +142,8 @@ is_done Done = true
 is_done Partial = false
 is_done SomeRefused = false
 
--- What `symbolicate` tells over the archives of the frames, asked once for each and in their order: done if it is each
--- time, and one text after the other.
+-- The results of `symbolicate` over the archives for the frames, one call for each, in order: `Done` if each is, and
+-- their texts in order.
 pub record SymbolicatesEach {S T : Type 0} (lines : Bool) (archive : Reader S) (others : List (Reader T))
     (frames : List Frame) (status : Status) (text : List ℕ) : Type 0 where
   pub told : List Told

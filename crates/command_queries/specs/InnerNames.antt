@@ -1,4 +1,4 @@
--- What is told of two names in several archives: definitions for private functions. No public contract uses them.
+-- The rows of two names in several archives: definitions for private functions. No public contract uses them.
 use Rattle.std.specs.Prelude.{◌≡◌, ◌↔◌, ◌⊎◌, ℕ, List, true, false, map, Contains}
 use Rattle.std.specs.List.{AllByRecursion, AllZip}
 use Rattle.std.specs.FinSet as set
@@ -8,7 +8,7 @@ use Rattle.archive_records.specs.Entry.{entry_bytes}
 use Rattle.archive_read.specs.declared.names.NamesFound.{NamesFound}
 use Rattle.command_common.specs.Inputs.{Reader, HoldsArchive}
 
--- one of these contents has a row of the name
+-- one of these contents has this row for the name
 abbrev pub HasNameRow : List Operations → List ℕ → NameRecord → Type 0
 HasNameRow contents name row = (o : Operations) × Contains contents o × IsNameRow o name row
 

@@ -1,4 +1,4 @@
--- The report of `list` over an archive, by its records.
+-- The report of `list` over an archive, from its records.
 use Rattle.text_reports.specs.Finds.{list_lines}
 use Rattle.command_common.specs.Asked.{prints_rows}
 use Rattle.command_common.specs.Ends.{Query}

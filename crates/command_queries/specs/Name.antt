@@ -9,7 +9,7 @@ use Rattle.command_common.specs.Ends.{Query}
 use Rattle.command_common.specs.Inputs.{Reader}
 use Rattle.command_common.specs.Found.{found_status}
 
--- what a content tells of a name: the status of its rows, and their lines
+-- the report of a content for a name: the status of its rows, and their lines
 pub record TellsNamed (content : Operations) (name : List ℕ) (status : Status) (text : List ℕ) : Type 0 where
   pub rows : List NameRecord
   pub names : IsNames content name rows
@@ -25,17 +25,17 @@ pub record IsUnderscored (content : Operations) (name : List ℕ) : Type 0 where
   pub nowhere : (row : NameRecord) → IsNameRow content name row → ⊥
   pub somewhere : (row : NameRecord) × IsNameRow content (underscored name) row
 
--- this says whether that is so
+-- the Boolean states whether that holds
 abbrev pub SaysUnderscored : Operations → List ℕ → Bool → Type 0
 SaysUnderscored content name true = IsUnderscored content name
 SaysUnderscored content name false = IsUnderscored content name → ⊥
 
--- what a content answers for a name
+-- the answer of a content for a name
 abbrev pub Answers : Operations → List ℕ → Status → List ℕ → Bool → Type 0
 Answers content name status text is_underscored =
     TellsNamed content name status text × SaysUnderscored content name is_underscored
 
--- ARCHIVE and the others are the texts of contents, and the join of these tells this of the name.
+-- ARCHIVE and the others are the texts of contents, and this is the report of their join for the name.
 abbrev pub MakesNamed : {R S : Type 0} → Reader R → List (Reader S) → List ℕ → Status → List ℕ → Type 0
 MakesNamed archive others name status text = HoldTogether archive others (λ o. TellsNamed o name status text)
 

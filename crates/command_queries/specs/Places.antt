@@ -1,4 +1,4 @@
--- The answers to places under a key, each with its lines.
+-- The answers for addresses under a key, each with its lines.
 use Rattle.std.specs.Prelude.{◌≡◌, ℕ, List, if◌then◌else◌, string_bytes}
 use Rattle.archive_core.specs.Lookup.{AnswerRecord, answer_view}
 use Rattle.archive_core.specs.declared.lookup.Where.{Where}
@@ -9,12 +9,12 @@ use Rattle.command_common.specs.declared.faults.Status.TheVariants.{Done, Partia
 use Rattle.command_queries.specs.Symbolicate.{Answered, is_symbol}
 use Rattle.command_queries.specs.declared.places.PlaceAnswer.{PlaceAnswer}
 
--- the address of a place
+-- the address itself
 abbrev pub address_in : Where → ℕ
 address_in (File address) = address
 address_in (Loaded load address) = address
 
--- This is the answer to a place: how a command ends that prints it alone, and its lines. Of the answer this is true.
+-- The answer for an address: the status of a command that prints only it, and its lines. The answer satisfies `IsSaid`.
 pub record IsPlaceTold (IsSaid : Where → AnswerRecord → List (List FrameRecord) → Type 0) (place : Where)
     (told : PlaceAnswer) : Type 0 where
   pub row : Answered

@@ -18,8 +18,8 @@ use Rattle.command_common.specs.Inputs.{Reader}
 use Rattle.command_queries.specs.Slices.{IsAnsweringRow, WithSlices}
 use Rattle.command_queries.specs.SourceFrames.{IsAnswerWithFrames}
 
--- the place that an address argument means: one of the image where it was loaded, if the words say where, and else one
--- of its file
+-- the address of an address argument: in the loaded image, if the words have its load address, and otherwise in its
+-- file
 abbrev pub asked_of : Option ℕ → ℕ → Where
 asked_of None address = File address
 asked_of (Some load) address = Loaded load address
@@ -37,12 +37,12 @@ pub record Answered : Type 0 where
   pub answer : Answer
   pub frames : List (List FrameRecord)
 
--- the answer is what the content tells of the address, and so are the frames, if lines are wanted
+-- the answer is that of the content for the address, and so are the frames, if lines are wanted
 abbrev pub IsAnswered : Operations → SliceKey → Option ℕ → Bool → Answered → Type 0
 IsAnswered content key load lines row =
     IsAnswerWithFrames content key lines (asked_of load row.address) (answer_view row.answer) row.frames
 
--- done where each answer is one symbol
+-- done if each answer is one symbol
 abbrev pub answers_status : List Answered → Status
 answers_status rows = if list_all (λ row. is_symbol row.answer) rows then Done else Partial
 
@@ -50,7 +50,7 @@ answers_status rows = if list_all (λ row. is_symbol row.answer) rows then Done 
 abbrev pub answers_text : List Answered → List ℕ
 answers_text rows = flat_map (λ row. answer_lines row.address row.answer row.frames) rows
 
--- what a content tells of addresses, one answer an address and in their order: the status, and the lines
+-- the answers of a content for addresses, one for each and in order: the status, and the lines
 pub record TellsAddresses (content : Operations) (key : SliceKey) (load : Option ℕ) (lines : Bool)
     (addresses : List ℕ) (status : Status) (text : List ℕ) : Type 0 where
   pub rows : List Answered
@@ -59,13 +59,13 @@ pub record TellsAddresses (content : Operations) (key : SliceKey) (load : Option
   pub status_is : status ≡ answers_status rows
   pub text_is : text ≡ answers_text rows
 
--- what a content tells of addresses, and if they are wanted the lines of the slices that answer
+-- the same, followed, if they are wanted, by the lines of the slices that answer
 abbrev pub TellsAddressesWith : Operations → SliceKey → Option ℕ → Bool → Bool → List ℕ → Status → List ℕ → Type 0
 TellsAddressesWith content key load lines slices addresses status text =
     WithSlices slices (TellsAddresses content key load lines addresses) (IsAnsweringRow content (key ∷ [])) (key ∷ [])
     status text
 
--- ARCHIVE and the others are the texts of contents, and the join of these tells this of the addresses.
+-- ARCHIVE and the others are the texts of contents, and these are the answers of their join for the addresses.
 abbrev pub MakesAnswered : {R S : Type 0} → Reader R → List (Reader S) → SliceKey → Option ℕ → Bool → Bool → List ℕ
     → Status → List ℕ → Type 0
 MakesAnswered archive others key load lines slices addresses status text =

@@ -1,4 +1,4 @@
-//! The addresses that address arguments mean, and the status after an answer.
+//! The addresses of address arguments, and the status after an answer.
 ghost use Rattle.std.specs.Prelude.{◌≡◌, if◌then◌else◌};
 ghost use Rattle.command_common.specs.declared.faults.Status.TheVariants.{Partial};
 ghost use Rattle.command_queries.specs.Symbolicate.{asked_of, is_symbol};
@@ -6,7 +6,7 @@ ghost use Rattle.command_queries.specs.Symbolicate.{asked_of, is_symbol};
 use archive_core::{Answer, Where};
 use command_common::Status;
 
-/// The address that an address argument means, in the file or in the loaded image.
+/// The address of an address argument, in the file or in the loaded image.
 pub fn asked_of(load: Option<u64>, address: u64) -> Where
     ensures { result ≡ asked_of load address }
 {

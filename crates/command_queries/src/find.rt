@@ -11,8 +11,8 @@ use memory::Heap;
 use text_reports::find_lines;
 use uuid::Uuid;
 
-/// Writes a row for each retirement and each live slice of the UUID in the join of the archives to the report, and
-/// after the rows of an architecture how many slices answer for it, if there are several.
+/// Writes to the report a row for each retirement and each live slice of the UUID in the join of the archives. If
+/// several slices answer for an architecture, its rows are followed by their number.
 ///
 /// # Errors
 ///

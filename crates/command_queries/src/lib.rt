@@ -1,9 +1,9 @@
-//! The commands that ask an archive, or several as their join, and print an answer, over any sources and sinks.
+//! The commands that search an archive, or several as their join, and print an answer, over any sources and sinks.
 //!
-//! - `find`, `list`, `name`: the commands that ask which slices it has;
-//! - `source_frames`: the source frames of places in the slices that answer under a key;
-//! - `places`: the answers of an archive to places under a key, each with its lines;
-//! - `addresses`: the address that an argument means, and the status after an answer.
+//! - `find`, `list`, `name`: the commands that print which slices it has;
+//! - `source_frames`: the source frames for addresses in the slices that answer under a key;
+//! - `places`: the answers of an archive for addresses under a key, each with its lines;
+//! - `addresses`: the address of an argument, and the status after an answer.
 #![tactic(auto)]
 
 mod addresses;

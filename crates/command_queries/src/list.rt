@@ -9,8 +9,8 @@ use command_common::{CommandFault, Evidence, Status, found_status, write_report}
 use memory::Heap;
 use text_reports::list_lines;
 
-/// Writes a row for each retirement and each live slice of the archive to the report, by UUID and then as `find` has
-/// them, and after the rows of a UUID and an architecture how many slices answer for it, if there are several.
+/// Writes to the report a row for each retirement and each live slice of the archive, by UUID and then as `find` orders
+/// them. If several slices answer for a UUID and an architecture, their rows are followed by their number.
 ///
 /// The status is `Done` if there is a row, and else `Partial`.
 ///

@@ -23,7 +23,7 @@ fn no_rows(heap: &Heap) -> NamesTold
     }
 }
 
-/// Reads the one archive that is searched, and gives the rows of the names.
+/// Reads the one archive that is searched, and returns the rows of the names.
 fn read_name_rows<R: Source>(
     heap: Heap,
     sought: SoughtNames<'_>,
@@ -43,7 +43,7 @@ fn read_name_rows<R: Source>(
     }
 }
 
-/// Reads the archive with this number on the command line, and adds what it tells of the names.
+/// Reads the archive with this number on the command line, and adds its rows for the names.
 fn gather_input<R: Source>(
     heap: Heap,
     found: NamesFound,
@@ -62,8 +62,8 @@ fn gather_input<R: Source>(
     }
 }
 
-/// Reads these archives, in their order, and adds what they tell of the names. The first of them is archive 1 on the
-/// command line.
+/// Reads these archives, in order, and adds their rows for the names. The first of them is archive 1 on the command
+/// line.
 fn gather_others<R: Source>(
     heap: &Heap,
     found: NamesFound,
@@ -80,8 +80,8 @@ fn gather_others<R: Source>(
     Ok(now)
 }
 
-/// Reads the archives in the order of the command line, each to its end, and gives the rows of the names in their join.
-/// Rows of slices that one of them retires are dropped at the end.
+/// Reads the archives in the order of the command line, each to its end, and returns the rows of the names in their
+/// join. Rows of slices that one of them retires are dropped at the end.
 fn gather_rows<R: Source>(
     heap: &Heap,
     sought: SoughtNames<'_>,
@@ -102,7 +102,7 @@ fn gather_rows<R: Source>(
     Ok(live_names(found))
 }
 
-/// Reads the archives that are searched, and gives the rows of the names in their join.
+/// Reads the archives that are searched, and returns the rows of the names in their join.
 fn read_rows<R: Source>(
     heap: Heap,
     sought: SoughtNames<'_>,
@@ -127,7 +127,7 @@ fn is_underscored(told: &NamesTold) -> bool
     told.rows.is_empty() && !told.others.is_empty()
 }
 
-/// A name with a `_` before it, as Mach-O has the names of C.
+/// A name with a `_` before it: Mach-O stores C names so.
 fn underscored(heap: Heap, name: &[u8]) -> Result<Vec<u8, Heap>, NoMemory>
     ensures { IfOk result (λ longer. longer.items ≡ underscored name.now) }
 {
@@ -137,21 +137,21 @@ fn underscored(heap: Heap, name: &[u8]) -> Result<Vec<u8, Heap>, NoMemory>
     Ok(longer)
 }
 
-/// What archives answer for a name.
+/// The answer of archives for a name.
 #[derive(Drop)]
 pub struct NameAnswer {
-    /// `Done` where a symbol has the name, and else `Partial`.
+    /// `Done` if a symbol has the name, and else `Partial`.
     pub status: Status,
     /// A line for each of its symbols.
     pub text: String<Heap>,
-    /// No symbol has the name, and one has it with a `_` before it.
+    /// No symbol has the name, but one has it with a `_` before it.
     pub is_underscored: bool,
 }
 
-/// Gives a row for each place where a symbol of this exact name stands in a live slice of the join of the archives: the
-/// key and the SHA-256 of the slice, the address, and the section. The name is sought by its bytes in the string table
-/// of an image, and so is the name with a `_` before it. The archives are read one after another, each once and to its
-/// end, and no slice is kept.
+/// Returns a row for each symbol with exactly this name in a live slice of the join of the archives: the key and the
+/// SHA-256 of the slice, the address, and the section. The name is searched by its bytes in the string table of an
+/// image, and so is the name with a `_` before it. The archives are read one after another, each once and to its end,
+/// and no slice is kept.
 ///
 /// # Errors
 ///

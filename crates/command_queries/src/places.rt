@@ -1,4 +1,4 @@
-//! The answers of an archive to places under a key, each with its lines.
+//! The answers of an archive for addresses under a key, each with its lines.
 ghost use Rattle.std.specs.Prelude.{◌≡◌, Bool, IfOk};
 ghost use Rattle.std.specs.List.{AllZip};
 ghost use Rattle.command_queries.specs.InnerSourceFrames.{AreSourceFramesOf};
@@ -12,14 +12,14 @@ use command_common::Status;
 use memory::{Heap, NoMemory};
 use text_reports::push_answer;
 
-/// The answer to a place: how a command ends that prints it alone, and its lines.
+/// The answer for an address: the status of a command that prints only it, and its lines.
 #[derive(Drop)]
 pub struct PlaceAnswer {
     pub status: Status,
     pub text: String<Heap>,
 }
 
-/// The address of a place.
+/// The address itself.
 pub fn address_in(place: Where) -> u64
     ensures { result ≡ address_in place }
 {
@@ -29,7 +29,7 @@ pub fn address_in(place: Where) -> u64
     }
 }
 
-/// The answer of an archive to a place, whose source frames were found.
+/// The answer of an archive for an address, whose source frames were found.
 fn answer_place<A: Archive>(
     heap: &Heap,
     archive: &A,
@@ -49,8 +49,8 @@ fn answer_place<A: Archive>(
     Ok(PlaceAnswer { status, text })
 }
 
-/// The answers of an archive to places under a key, in their order. If `lines`, the lines of the source frames come
-/// after that of each slice; the DWARF of a slice is read once for all places.
+/// The answers of an archive for addresses under a key, in order. If `lines`, the lines of the source frames follow
+/// that of each slice; the DWARF of a slice is read once for all addresses.
 pub fn answer_places<A: Archive>(
     heap: &Heap,
     archive: &A,
@@ -61,7 +61,7 @@ pub fn answer_places<A: Archive>(
     ensures { IfOk result (λ told.
         AllZip (IsPlaceTold (IsAnswerWithFrames (A.content archive.now) key.now lines)) places.now told.items) }
 {
-    let sources = SourceFrames::wanted(heap, archive, key, lines, places)?;
+    let sources = SourceFrames::if_wanted(heap, archive, key, lines, places)?;
     let mut told = Vec::with_capacity(heap.share(), places.len())?;
     'places: for place in places {
         told.push(answer_place(heap, archive, key, &sources, *place)?)?;

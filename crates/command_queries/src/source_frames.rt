@@ -1,4 +1,4 @@
-//! The source frames of places in the slices that answer under a key.
+//! The source frames for addresses in the slices that answer under a key.
 ghost use Rattle.std.specs.Prelude.{◌≡◌, [], Contains, IfOk, filter_map, map, true};
 ghost use Rattle.std.specs.Option.{option_map_or};
 ghost use Rattle.archive_core.specs.Lookup.{file_address};
@@ -13,21 +13,20 @@ use dwarf_asked_frames::{AddressFrames, frames_of};
 use dwarf_source_frames::SourceFrame;
 use memory::{Heap, NoMemory};
 
-/// A slice that answers, and the frames that were found in it.
+/// A slice that answers, and the frames found in it.
 #[derive(Drop)]
 struct SlicedFrames<'s> {
     slice: &'s Slice,
     frames: AddressFrames<'s>,
 }
 
-/// What was found in the slices that answer under a key, in the order of their records; nothing where no lines are
-/// wanted.
+/// The frames found in the slices that answer under a key, in the order of their records; none if no lines are wanted.
 #[derive(Drop)]
 pub(crate) struct SourceFrames<'s> {
     found: Vec<SlicedFrames<'s>, Heap>,
 }
 
-/// The addresses in a slice's file that places stand for.
+/// The addresses in a slice's file for these addresses.
 fn addresses_in(heap: Heap, slice: &Slice, places: &[Where]) -> Result<Vec<u64, Heap>, NoMemory>
     ensures { IfOk result (λ addresses. addresses.items ≡ filter_map (file_address slice.now) places.now) }
 {
@@ -38,7 +37,7 @@ fn addresses_in(heap: Heap, slice: &Slice, places: &[Where]) -> Result<Vec<u64, 
 }
 
 impl<'s> SlicedFrames<'s> {
-    /// The frames of places in a slice, found together.
+    /// The frames for addresses in a slice, found in one pass.
     fn of(heap: Heap, slice: &'s Slice, places: &[Where]) -> Result<SlicedFrames<'s>, NoMemory>
         ensures slice { IfOk result (λ it. it.slice.now ≡ slice.now) }
         ensures frames { IfOk result (λ it. (place : Where) → Contains places.now place
@@ -58,7 +57,7 @@ impl<'s> SlicedFrames<'s> {
 }
 
 impl<'s> SourceFrames<'s> {
-    /// No lines are wanted.
+    /// No frames: no lines are wanted.
     pub(crate) fn none(heap: Heap) -> SourceFrames<'s>
         ensures { result.found.items ≡ [] }
     {
@@ -67,7 +66,7 @@ impl<'s> SourceFrames<'s> {
         }
     }
 
-    /// The frames of places in the slices that answer under a key.
+    /// The frames for addresses in the slices that answer under a key.
     pub(crate) fn of<A: Archive>(
         heap: &Heap,
         archive: &'s A,
@@ -86,7 +85,7 @@ impl<'s> SourceFrames<'s> {
     }
 
     /// The same if `lines`; else none.
-    pub(crate) fn wanted<A: Archive>(
+    pub(crate) fn if_wanted<A: Archive>(
         heap: &Heap,
         archive: &'s A,
         key: &SliceKey,

@@ -41,7 +41,7 @@ use Rattle.archive_core.specs.declared.operations.Operation.{Operation}
 use Rattle.archive_core.specs.Record.{record_bytes, retirement_record}
 use Rattle.archive_records.specs.declared.format.Format.TheVariants.{OldArchive}
 use Rattle.archive_merge.specs.declared.arrivals.Arrival.{Arrival}
-use Rattle.command_write.specs.InnerArrivalJoins.{IsJoinedWithArrivals, MakesTold, telling, HasNewOf, counts_of, IsRetired}
+use Rattle.command_write.specs.InnerArrivalJoins.{IsJoinedWithArrivals, MakesTold, telling, HasSortedOperations, counts_of, IsRetired}
 use Rattle.std.proofs.lemmas.List.{length-map}
 use Rattle.archive_core.proofs.Taken.{taken_are_joined, new_within}
 use Rattle.archive_records.proofs.Inputs.{one_operations}
@@ -220,7 +220,7 @@ module _ {R S : Type 0} (input : Reader R) (left : S → Option (List ℕ)) (fai
   ops = reader left failures old new
 
   -- OPS was read
-  pub applied : (sorted : List Operation) (number : ℕ) → HasNewOf ops sorted number → Unfailed ops → (result : Result Status CommandFault)
+  pub applied : (sorted : List Operation) (number : ℕ) → HasSortedOperations ops sorted number → Unfailed ops → (result : Result Status CommandFault)
       → EndsBegun input (λ given. telling given (set_of sorted) (counts_of (map record_bytes sorted) number)) out report result
       → EndsStreamed (apply_as_it_comes input ops out.draft) out report result
   applied sorted number has unfailed =

@@ -37,7 +37,7 @@ use Rattle.archive_records.proofs.Versions.{made_content, one_content}
 use Rattle.archive_merge.specs.ArrivalMerge.{HasOperations, IsMergedWithArrivals}
 use Rattle.archive_merge.specs.Arrivals.{arrival_of}
 use Rattle.archive_merge.specs.declared.arrivals.Arrival.{Arrival}
-use Rattle.archive_merge.proofs.Tellings.{one_set}
+use Rattle.archive_merge.proofs.ArrivalsAtEnd.{one_set}
 use Rattle.command_write.specs.InnerArrivalJoins.{HoldsVersion1Text, IsJoinedWithArrivals}
 use Rattle.command_write.specs.Merge.{MakesMerged, merge_in_turn}
 use Rattle.command_common.proofs.Readers.{by_device}

@@ -22,7 +22,7 @@ use Rattle.archive_records.specs.Reader.{GathersAll, HasRead, HasReadAll, IsGath
 use Rattle.archive_records.specs.Text.{end_record, ending, missing, taken_of, text_of, written, AreApart, InOrder, IsArchiveOf}
 use Rattle.archive_records.proofs.Blamed.{blames_behind}
 use Rattle.archive_records.proofs.Gathered.{gathered}
-use Rattle.archive_records.proofs.Taken.{taken_none}
+use Rattle.archive_records.proofs.TakenRecords.{taken_none}
 use Rattle.archive_merge.proofs.Starts.{counts_of}
 use Rattle.byte_device.specs.Devices.{FailedIn, stream}
 use Rattle.byte_device.specs.Writes.{WritesFirst}

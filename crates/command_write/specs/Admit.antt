@@ -14,24 +14,24 @@ use Rattle.command_common.specs.Inputs.{HoldsArchive, IsFileRefused, IsFirstRefu
 use Rattle.command_common.specs.Outputs.{Writer}
 use Rattle.command_write.specs.Begun.{begins_after}
 
--- the images of files: those of their parts that are one, in their order
+-- the images among the parts of files, in order
 abbrev pub images_of : List (List ℕ) → List (List ℕ)
 images_of files = flat_map admissible files
 
--- the rows of the file of this number on the command line, from a slice on
+-- the rows of the file with this number on the command line, from part number `slice` on
 unfoldable pub file_rows : ℕ → ℕ → List Taken → List AdmitRow
 file_rows index slice [] = []
 file_rows index slice (taken ∷ rest) =
     record { file = index; slice = slice; taken = taken } ∷ file_rows index (slice + 1) rest
 
--- the rows of files from this number on, each over what those before it left
+-- the rows of files from this number on, each file over the content that includes the earlier ones
 unfoldable pub admit_rows : Operations → ℕ → List (List ℕ) → List AdmitRow
 admit_rows o index [] = []
 admit_rows o index (file ∷ files) =
     file_rows index 0 (taken_rows o (parts file)) ++ admit_rows (admitted o (admissible file)) (index + 1) files
 
--- IN is the text of a content and the files are accepted; this is the content with their images, and these are the
--- lines of their rows.
+-- IN is the text of a content and the files are accepted; `content` adds their images to it, and `lines` are the lines
+-- of their rows.
 pub record MakesAdmitted {R S : Type 0} (input : Reader R) (files : List (Reader S)) (content : Operations)
     (lines : List ℕ) : Type 0 where
   pub before : Operations
@@ -51,7 +51,7 @@ admit input files = record {
   Unfailed = Unfailed input × EachUnfailed files;
 }
 
--- the same as it comes, the files before IN
+-- the same while IN is read; the files are read before IN
 abbrev pub admit_as_it_comes : {R S : Type 0} → Reader R → List (Reader S) → Writer → Streamed
 admit_as_it_comes input files draft =
     begins_after input (AllByRecursion IsAccepted files × EachUnfailed files) (λ given. admit given files)

@@ -11,7 +11,7 @@ use Rattle.command_common.specs.Inputs.{HoldsArchive, IsKnown}
 use Rattle.command_common.specs.Outputs.{Writer}
 use Rattle.command_write.specs.Begun.{begins_after}
 
--- IN is the text of a content and OPS that of operations; this is the content with their records, and this is the line
+-- IN is the text of a content and OPS that of operations; `content` adds their records to it, and `lines` is the line
 -- that counts the new and the known ones.
 pub record MakesApplied {R S : Type 0} (input : Reader R) (ops : Reader S) (content : Operations)
     (lines : List ℕ) : Type 0 where
@@ -37,7 +37,7 @@ apply input ops = record {
 abbrev pub GivesOperations : {S : Type 0} → Reader S → Type 0
 GivesOperations ops = (operations : List Operation) × Gives ops (λ text. IsOperationsText text operations)
 
--- the same as it comes, OPS before IN
+-- the same while IN is read; OPS is read before IN
 abbrev pub apply_as_it_comes : {R S : Type 0} → Reader R → Reader S → Writer → Streamed
 apply_as_it_comes input ops draft =
     begins_after input (GivesOperations ops × Unfailed ops) (λ given. apply given ops) (IsKnown ops) draft

@@ -11,8 +11,8 @@ use Rattle.command_common.specs.Inputs.{HoldsArchive, IsKnown}
 use Rattle.command_common.specs.Outputs.{Writer}
 use Rattle.command_write.specs.Begun.{begins_after}
 
--- ARCHIVE is the text of a content and SUMMARY that of entries; this is the content of the operations that they do not
--- name, and there are no lines but the sizes.
+-- ARCHIVE is the text of a content and SUMMARY that of entries; `content` is that of the operations that the entries do
+-- not name. The only lines are the sizes.
 pub record MakesDelta {R S : Type 0} (archive : Reader R) (summary : Reader S) (content : Operations)
     (lines : List ℕ) : Type 0 where
   pub before : Operations
@@ -36,7 +36,7 @@ delta archive summary = record {
 abbrev pub GivesSummary : {S : Type 0} → Reader S → Type 0
 GivesSummary summary = (entries : Entries) × AreEntries entries × Holds summary (summary_text entries)
 
--- the same as it comes, SUMMARY before ARCHIVE
+-- the same while ARCHIVE is read; SUMMARY is read before ARCHIVE
 abbrev pub delta_as_it_comes : {R S : Type 0} → Reader R → Reader S → Writer → Streamed
 delta_as_it_comes archive summary draft =
     begins_after archive (GivesSummary summary × Unfailed summary) (λ given. delta given summary) (IsKnown summary)

@@ -12,6 +12,6 @@ unfoldable pub file_row_text : FileRow → List ℕ
 file_row_text (Part row) = admit_row_text row
 file_row_text (PassedOver file why) = codes "file " ++ decimal file ++ codes " refused " ++ why_text why
 
--- the lines of rows, in their order
+-- the lines of rows, in order
 abbrev pub file_lines : List FileRow → List ℕ
 file_lines rows = flat_map (λ row. line (file_row_text row)) rows

@@ -1,4 +1,4 @@
--- IN's archive, merged with operations that are at hand, and what each of these is to IN: definitions for private
+-- IN's archive, merged with operations in memory, and the arrival of each of these in IN: definitions for private
 -- functions. No public contract uses them.
 use Rattle.std.specs.Prelude.{◌≡◌, ℕ, ◌-◌, List, Bool, Some, length, map}
 use Rattle.std.specs.List.{count_by, list_any}
@@ -29,16 +29,16 @@ pub record HoldsVersion1Text {S : Type 0} (side : Stream S) (operations : Operat
   pub unfailed_before : side.failures side.old ≡ 0
   pub unfailed : side.failures side.new ≡ 0
 
--- The input is an archive's text, and that of the join of its content with what these operations make was written; of
--- each of them it was told what it is to that content, and whether one of them retires a slice that is there.
+-- The input is an archive's text, and the text of the join of its content with these operations was written. `arrived`
+-- has the arrival of each operation in that content, and `withdraws` is whether one of them retires a slice of it.
 pub record IsJoinedWithArrivals {R W : Type 0} (input : Reader R) (operations : Operations) (draft : Stream W)
     (sizes : Sizes) (arrived : List Arrival) (withdraws : Bool) : Type 0 where
   pub joined : IsJoined input (content_of operations) draft sizes
   pub arrivals_are : arrived ≡ map (arrival_of joined.content) (listing operations)
   pub withdraws_is : withdraws ≡ list_any (is_covered operations) (listing joined.content)
 
--- The input is an archive's text, and that of its content with the retirement was written; and these tell whether that
--- changed it, and whether it had such a slice.
+-- The input is an archive's text, and the text of its content with the retirement was written. `changed` is whether the
+-- retirement changed the content, and `had` whether the content had such a slice.
 pub record IsRetired {R W : Type 0} (input : Reader R) (key : SliceKey) (digest : Digest) (draft : Stream W)
     (sizes : Sizes) (changed had : Bool) : Type 0 where
   pub before : Operations
@@ -51,8 +51,8 @@ pub record IsRetired {R W : Type 0} (input : Reader R) (key : SliceKey) (digest 
   pub changed_is : changed ≡ changes before (retirement_record key digest.0)
   pub had_is : had ≡ has_slice before key digest
 
--- The input is an archive's text, and this is the join of its content with what these operations make; its lines are
--- made of which records change that content.
+-- The input is an archive's text, and `content` is the join of its content with these operations; `lines_of` makes the
+-- lines from the records that change that content.
 pub record MakesTold {R : Type 0} (input : Reader R) (operations : Operations) (lines_of : (List ℕ → Bool) → List ℕ)
     (content : Operations) (lines : List ℕ) : Type 0 where
   pub before : Operations
@@ -69,13 +69,13 @@ telling input operations lines_of = record {
   Unfailed = Unfailed input;
 }
 
--- the line of `apply`: of so many operations those of these records are new that pass this test, and the others known
+-- the line of `apply`: of `number` operations, those of these records that pass the test are new, and the others known
 abbrev pub counts_of : List (List ℕ) → ℕ → (List ℕ → Bool) → List ℕ
 counts_of records number is_new =
     apply_line (count_by is_new records) (number - count_by is_new records)
 
--- OPS is the text of so many operations, and these are those that are new in their turn among them.
-pub record HasNewOf {S : Type 0} (ops : Reader S) (sorted : List Operation) (number : ℕ) : Type 0 where
+-- OPS is the text of `number` operations, and `sorted` are those that are new when applied in order.
+pub record HasSortedOperations {S : Type 0} (ops : Reader S) (sorted : List Operation) (number : ℕ) : Type 0 where
   pub operations : List Operation
   pub ops_are : Gives ops (λ text. IsOperationsText text operations)
   pub sorted_is : AreSortedWithSameEffect operations sorted

@@ -12,14 +12,14 @@ use Rattle.command_common.specs.declared.notes.Note.{Note}
 use Rattle.command_common.specs.declared.notes.Note.TheVariants as note
 use Rattle.command_write.specs.Notes.{retired_notes}
 
--- the note of an operation by what it is to a content: a slice that is retired has one
+-- the notes of an operation, by its arrival in a content: one for a slice that is retired
 abbrev pub note_of : Arrival → Operation → List Note
 note_of New operation = []
 note_of Had operation = []
 note_of Retired (Admit slice) = note.Retired (key_of slice) (record { 0 = sha256 slice }) ∷ []
 note_of Retired (Retire key digest) = []
 
--- The input is an archive's text, and of each of these operations that its content retires a note was added.
+-- The input is an archive's text, and a note was added for each of these operations that its content retires.
 pub record IsNoted {R : Type 0} (input : Reader R) (came : Operations) (old new : List Note) : Type 0 where
   pub before : Operations
   pub is_content : IsContent before

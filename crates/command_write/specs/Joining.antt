@@ -1,4 +1,4 @@
--- IN's archive, joined with one that is at hand: definitions for private functions. No public contract uses them.
+-- IN's archive, joined with one in memory: definitions for private functions. No public contract uses them.
 use Rattle.std.specs.Prelude.{◌≡◌, ℕ, List, [], Some, Result, Ok, Err}
 use Rattle.std.specs.FinSet as set
 use Rattle.archive_core.specs.Content.{Operations, IsContent, joined}
@@ -12,7 +12,8 @@ use Rattle.command_common.specs.Inputs.{Reader, Unfailed, IsKnown, IsRefusedArch
 use Rattle.command_common.specs.Outputs.{writer}
 use Rattle.command_write.specs.Begun.{IsUnfinished}
 
--- what came of writing a draft while the input is read: this; or what the draft took and has, and why that was stopped
+-- the result of writing a draft while the input is read: the given relation holds; or writing was stopped, with the
+-- cause and the bytes of the draft
 abbrev pub WritesAmidst : {R W T : Type 0} → (Reader R → Command) → (Reader R → Stream W → T → Type 0) → Reader R
     → Stream W → Result T CommandFault → Type 0
 WritesAmidst command Makes input draft (Ok made) = Makes input draft made
@@ -30,14 +31,14 @@ pub record IsAtHand {S : Type 0} (side : Stream S) (p : Operations) : Type 0 whe
   pub unfailed_before : side.failures side.old ≡ 0
   pub unfailed : side.failures side.new ≡ 0
 
--- The input is an archive's text, and the text is that of the join of its content with this one.
+-- The input is an archive's text, and `text` is the text of the join of its content with this one.
 pub record MakesJoin {R : Type 0} (input : Reader R) (p : Operations) (text told : List ℕ) : Type 0 where
   pub content : Operations
   pub is_content : IsContent content
   pub archive : HoldsArchive input content
   pub text_is : text ≡ written (joined content p)
 
--- a command that joins it with this content
+-- a command that joins the input with this content
 abbrev pub joining : {R : Type 0} → Reader R → Operations → Command
 joining input p = record {
   Makes = MakesJoin input p;
@@ -45,7 +46,7 @@ joining input p = record {
   Unfailed = Unfailed input;
 }
 
--- The input is an archive's text, and that of the join of its content with this one was written.
+-- The input is an archive's text, and the text of the join of its content with this one was written.
 pub record IsJoined {R W : Type 0} (input : Reader R) (p : Operations) (draft : Stream W) (sizes : Sizes)
     : Type 0 where
   pub content : Operations
@@ -55,8 +56,8 @@ pub record IsJoined {R W : Type 0} (input : Reader R) (p : Operations) (draft : 
   pub written_is : IsWrittenWhole draft.bytes draft.failures draft.old draft.new (set.len (joined content p))
       (written (joined content p)) sizes
 
--- what came of writing the join with a content of which this is true: it was written; or what the draft took and has,
--- and why that was stopped
+-- the result of writing the join with a content that satisfies the given relation: it was written; or writing was
+-- stopped, with the cause and the bytes of the draft
 abbrev pub JoinsAmidst : {R W : Type 0} → (Operations → Type 0) → Reader R → Stream W → Result Sizes CommandFault
     → Type 0
 JoinsAmidst IsGiven input draft (Ok sizes) = (p : Operations) → IsGiven p → IsJoined input p draft sizes
@@ -67,7 +68,7 @@ JoinsAmidst IsGiven input draft (Err fault) =
     × IsUnfinished input (Unit {0}) (λ given. joining given p) (Unit {0})
     (writer draft.bytes draft.failures draft.old draft.new))
 
--- The input is an archive's text, and this is the join of its content with this one; there are no lines but the sizes.
+-- The input is an archive's text, and `content` is the join of its content with this one. The only lines are the sizes.
 pub record MakesJoined {R : Type 0} (input : Reader R) (p content : Operations) (lines : List ℕ) : Type 0 where
   pub before : Operations
   pub is_content : IsContent before

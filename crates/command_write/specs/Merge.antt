@@ -14,14 +14,14 @@ use Rattle.command_write.specs.Begun.{begins_after}
 abbrev pub operations_of : List Operations → Operations
 operations_of contents = fold set.union set.empty contents
 
--- The files are the texts of contents, and these are joined to the content now.
+-- The files are the texts of contents, and `new` is the join of these with `old`.
 pub record HasJoined {S : Type 0} (files : List (Reader S)) (old new : Operations) : Type 0 where
   pub contents : List Operations
   pub are_contents : AllByRecursion IsContent contents
   pub files_are : AllZip HoldsArchive files contents
   pub content : new ≡ merged old contents
 
--- IN and the files are the texts of contents; this is what their join gives, and there are no lines but the sizes.
+-- IN and the files are the texts of contents, and `content` is their join. The only lines are the sizes.
 pub record MakesMerged {R S : Type 0} (input : Reader R) (files : List (Reader S)) (content : Operations)
     (lines : List ℕ) : Type 0 where
   pub before : Operations
@@ -41,7 +41,7 @@ merge input files = record {
   Unfailed = Unfailed input × EachUnfailed files;
 }
 
--- the same as IN comes, the files before it
+-- the same while IN is read; the files are read before it
 abbrev pub merge_in_turn : {R S : Type 0} → Reader R → List (Reader S) → Writer → Streamed
 merge_in_turn input files draft =
     begins_after input (AllByRecursion IsArchive files × EachUnfailed files) (λ given. merge given files)

@@ -1,4 +1,4 @@
--- `merge` of one FILE: the two archives are merged as they come.
+-- `merge` of one FILE: the two archives are merged as they are read.
 use Rattle.std.specs.Prelude.{◌≡◌, ◌≢◌, List, [], ◌∷◌, Err}
 use Rattle.archive_records.specs.declared.fault.MergeCause.{MergeCause}
 use Rattle.archive_records.specs.declared.fault.MergeCause.TheVariants.{Left, Right, Write}
@@ -17,7 +17,7 @@ use Rattle.command_common.specs.Inputs.{EachUnfailed, Reader, Unfailed}
 use Rattle.command_common.specs.Outputs.{Outs, draft_of, out_of}
 use Rattle.command_write.specs.Merge.{MakesMerged, merge_in_turn}
 
--- the side that stopped the merge is told, IN as archive 0 and the FILE as archive 1, and its fault
+-- the side that stopped the merge is reported with its fault: IN as archive 0, the FILE as archive 1
 abbrev pub IsSide : MergeCause → InputName → Why → Type 0
 IsSide (Left fault) at why = (at ≡ Archive 0) × (why ≡ Record fault) × (fault.kind ≢ RecordOutOfMemory)
 IsSide (Right fault) at why = (at ≡ Archive 1) × (why ≡ Record fault) × (fault.kind ≢ RecordOutOfMemory)
@@ -29,15 +29,15 @@ WantsMemory (Left fault) = fault.kind ≡ RecordOutOfMemory
 WantsMemory (Right fault) = fault.kind ≡ RecordOutOfMemory
 WantsMemory Write = ⊥
 
--- what is told where this stopped the merge
+-- the fault that is reported if this stopped the merge
 abbrev pub IsMergeFaultTold : MergeFault → CommandFault → Type 0
 IsMergeFaultTold e (Input at why) = IsSide e.cause at why
 IsMergeFaultTold e (Output n) = e ≡ record { cause = Write; written = n }
 IsMergeFaultTold e (Report n) = ⊥
 IsMergeFaultTold e OutOfMemory = WantsMemory e.cause
 
--- The merge of both inputs was stopped, and this is told. The draft has what the merge leaves, as many bytes as its
--- fault says.
+-- The merge of both inputs was stopped, and this fault is reported. The draft has the bytes that the merge wrote, as
+-- many as its fault states.
 pub record StopsMerge {R S D : Type 0} (left : Stream R) (right : Stream S) (draft : Stream D) (fault : CommandFault)
     : Type 0 where
   pub stopped : MergeFault
@@ -45,7 +45,7 @@ pub record StopsMerge {R S D : Type 0} (left : Stream R) (right : Stream S) (dra
   pub count : GainsCount draft stopped.written
   pub told : IsMergeFaultTold stopped fault
 
--- what stops the command: what stops the merge of both
+-- the faults that stop the command: those that stop the merge of both
 abbrev pub StopsMergeOfOne : {R S D : Type 0} → Reader R → Reader S → Stream D → CommandFault → Type 0
 StopsMergeOfOne input file draft fault =
     StopsMerge (stream input.left input.failures input.old input.new)
@@ -59,7 +59,7 @@ merge_of_one input file draft = record {
   Unfailed = Unfailed input × EachUnfailed (file ∷ []);
 }
 
--- `merge`: with one FILE as the two come, and else as IN comes, the FILEs before it
+-- `merge`: with one FILE while both are read; otherwise while IN is read, after the FILEs
 abbrev pub merge_as_it_comes : {R S D T : Type 0} → Reader R → List (Reader S) → Outs D T → Streamed
 merge_as_it_comes {S = S} input [] out = merge_in_turn {S = S} input [] (out_of out).draft
 merge_as_it_comes input (file ∷ []) out = merge_of_one input file (draft_of out)

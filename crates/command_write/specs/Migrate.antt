@@ -6,8 +6,7 @@ use Rattle.command_common.specs.Inputs.{Reader, Unfailed, IsRefusedArchive, Hold
 use Rattle.command_common.specs.Outputs.{Writer}
 use Rattle.command_write.specs.Begun.{begins_alone}
 
--- IN is an archive's text, of whichever version, and this is the content that it gives; there are no lines but the
--- sizes.
+-- IN is an archive's text, of either version, and `content` is its content. The only lines are the sizes.
 pub record MakesMigrated {R : Type 0} (input : Reader R) (content : Operations) (lines : List ℕ) : Type 0 where
   pub is_content : IsContent content
   pub archive : HoldsArchive input content
@@ -21,6 +20,6 @@ migrate input = record {
   Unfailed = Unfailed input;
 }
 
--- the same as it comes
+-- the same while IN is read
 abbrev pub migrate_as_it_comes : {R : Type 0} → Reader R → Writer → Streamed
 migrate_as_it_comes input draft = begins_alone input (λ given. migrate given) draft

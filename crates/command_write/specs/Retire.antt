@@ -10,7 +10,7 @@ use Rattle.command_common.specs.Inputs.{Reader, Unfailed, IsRefusedArchive, Hold
 use Rattle.command_common.specs.Outputs.{Writer}
 use Rattle.command_write.specs.Begun.{begins_alone}
 
--- IN is the text of a content; this is the content with the retirement, and this is the line that tells whether that
+-- IN is the text of a content; `content` adds the retirement to it, and `lines` is the line that states whether that
 -- changed it.
 pub record MakesRetired {R : Type 0} (input : Reader R) (key : SliceKey) (digest : Digest) (content : Operations)
     (lines : List ℕ) : Type 0 where
@@ -28,6 +28,6 @@ retire input key digest = record {
   Unfailed = Unfailed input;
 }
 
--- the same as it comes
+-- the same while IN is read
 abbrev pub retire_as_it_comes : {R : Type 0} → Reader R → SliceKey → Digest → Writer → Streamed
 retire_as_it_comes input key digest draft = begins_alone input (λ given. retire given key digest) draft

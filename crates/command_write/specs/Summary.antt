@@ -1,4 +1,4 @@
--- The summary that `summary` makes from an archive, by its records.
+-- The summary that `summary` makes from the records of an archive.
 use Rattle.command_common.specs.Asked.{writes_summary}
 use Rattle.command_common.specs.Ends.{Command}
 use Rattle.command_common.specs.Inputs.{Reader}

@@ -1,4 +1,4 @@
-//! `admit IN OUT FILE...`, which passes over FILEs that are refused, or is refused for the first of them.
+//! `admit IN OUT FILE...`, which passes over refused FILEs, or fails for the first of them.
 ghost use Rattle.std.specs.Prelude.{◌≡◌, ◌≢◌, ◌++◌, ℕ, List, length, map, string_bytes, Ok, Err, OnOk, IfOk, IfErr};
 ghost use Rattle.std.specs.List.{list_any};
 ghost use Rattle.join_core.specs.Listing.{listing};
@@ -61,7 +61,7 @@ fn slices_in(index: u64, bytes: Vec<u8, Heap>) -> Result<Vec<Option<Slice>, Heap
     }
 }
 
-/// Reads the file of this number, and its slices.
+/// Reads the file with this number, and returns its slices.
 fn read_slices<S: Source>(
     heap: &Heap,
     index: u64,
@@ -76,7 +76,7 @@ fn read_slices<S: Source>(
     Ok(slices)
 }
 
-/// Takes the slices of the file of this number, and adds their rows.
+/// Adds the slices and the rows of the file with this number.
 fn admit_file<S: Source>(
     heap: &Heap,
     arrivals: &mut Arrivals,
@@ -115,7 +115,7 @@ fn why_refused(fault: CommandFault) -> Result<Why, NoMemory>
     }
 }
 
-/// Why a file is passed over that is refused, unless there was no memory to open it.
+/// Why a refused file is passed over; fails if memory ran out at its opening.
 fn why_passed(opening: Opening, why: Why) -> Result<Why, NoMemory>
     ensures why { IfOk result (λ told. told ≡ why_passed opening why) }
     ensures opened { OnOk result (opening ≢ OutOfMemory) }
@@ -127,7 +127,7 @@ fn why_passed(opening: Opening, why: Why) -> Result<Why, NoMemory>
     }
 }
 
-/// Adds the row of the file of this number, which is refused.
+/// Adds the row of the file with this number, which is refused.
 fn pass_file<S: Source + Opens>(
     arrivals: &mut Arrivals,
     index: u64,
@@ -142,8 +142,8 @@ fn pass_file<S: Source + Opens>(
     Ok(())
 }
 
-/// Takes the slices of the file of this number, and adds their rows, or passes it over, and adds its row. Returns
-/// whether it was passed over.
+/// Adds the slices and the rows of the file with this number; or passes it over, and adds its row. Returns whether it
+/// was passed over.
 fn take_file<S: Source + Opens>(
     heap: &Heap,
     arrivals: &mut Arrivals,
@@ -167,7 +167,7 @@ fn take_file<S: Source + Opens>(
     }
 }
 
-/// What is taken of the files, and whether one of them was passed over.
+/// Returns the slices and rows of the files, and whether one of them was passed over.
 fn take_files<S: Source + Opens>(heap: &Heap, files: &mut [S]) -> Result<(Arrivals, bool), NoMemory>
     ensures { let known = readers S.left S.failures files.old files.new in
         IfOk result (λ taken. (outcomes : List Outcome) × HasCome S.opening_of known outcomes taken.0.came
@@ -182,8 +182,7 @@ fn take_files<S: Source + Opens>(heap: &Heap, files: &mut [S]) -> Result<(Arriva
     Ok((arrivals, passed))
 }
 
-/// The lines of the rows, told again by what each of the slices that came is to IN. Of each that IN retires a note is
-/// added.
+/// The lines of the rows, updated by the arrival of each slice in IN. Adds a note for each slice that IN retires.
 fn report_arrivals(
     heap: Heap,
     arrivals: Arrivals,
@@ -211,8 +210,8 @@ fn report_arrivals(
     file_lines(heap, &again)
 }
 
-/// Writes IN's archive to OUT with the slices that came, and their rows and the sizes to the report: a slice that IN
-/// has, or retires, is known. Of each that IN retires a note is added.
+/// Writes IN's archive with the slices to OUT, and their rows and the sizes to the report: a slice that IN has or
+/// retires is known. Adds a note for each slice that IN retires.
 fn write_admitted<R: Source, T: Target, P: Sink>(
     heap: Heap,
     input: &mut R,
@@ -237,7 +236,7 @@ fn write_admitted<R: Source, T: Target, P: Sink>(
     publish_draft(lines, sizes, out, report)
 }
 
-/// `admit` that is refused for a file that is.
+/// `admit` that fails for a refused file.
 fn admit_all<R: Source, S: Source, T: Target, P: Sink>(
     heap: Heap,
     input: &mut R,
@@ -270,7 +269,7 @@ fn with_status(passed: bool, ended: Result<Status, CommandFault>) -> Result<Stat
     }
 }
 
-/// `admit` that passes over the files that are refused.
+/// `admit` that passes over refused files.
 fn admit_passing<R: Source, S: Source + Opens, T: Target, P: Sink>(
     heap: Heap,
     input: &mut R,
@@ -296,17 +295,16 @@ fn admit_passing<R: Source, S: Source + Opens, T: Target, P: Sink>(
     }
 }
 
-/// Writes IN's archive to OUT with the slices of each file, and a row for each part and the sizes to the report. The
-/// files are read first, in the order of the command line, each to its end, and then IN is merged with their slices as
-/// it comes, in the memory of these, of one record and of 57 bytes for each retirement. Of each slice of the files that
-/// IN retires a note is added, in the order of their records. A file that is refused is passed over with `keep_going`,
-/// and has a row that says why; the status is `SomeRefused` then. Without it IN is tested to its end, and the
-/// command is refused.
+/// Writes IN's archive with the slices of each file to OUT, and a row for each part and the sizes to the report. The
+/// files are read first, in the order of the command line, each to its end; then IN is merged with their slices as it
+/// is read, in the memory of these slices, of one record and of 57 bytes for each retirement. A note is added for each
+/// slice of the files that IN retires, in the order of their records. With `keep_going`, a refused file is passed over:
+/// its row has the reason, and the status is `SomeRefused`. Without it, IN is tested to its end, and the command fails.
 ///
 /// # Errors
 ///
-/// `Input` for IN or, without `keep_going`, for the first input that is refused, in the order of the command line;
-/// `Output` and `Report` where that writer failed; `OutOfMemory`.
+/// `Input` for IN or, without `keep_going`, for the first refused input, in the order of the command line; `Output` and
+/// `Report` if that writer failed; `OutOfMemory`.
 pub fn run_admit<R: Source, S: Source + Opens, T: Target, P: Sink>(
     heap: Heap,
     keep_going: bool,

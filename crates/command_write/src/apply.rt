@@ -8,7 +8,7 @@ ghost use Rattle.std.specs.Ordering.{nat_cmp};
 ghost use Rattle.archive_core.specs.Content.{Operations, IsMade, changes};
 ghost use Rattle.archive_core.specs.Record.{IsOperation, record_bytes};
 ghost use Rattle.command_write.specs.Apply.{apply_as_it_comes};
-ghost use Rattle.command_write.specs.InnerArrivalJoins.{HasNewOf, counts_of, telling};
+ghost use Rattle.command_write.specs.InnerArrivalJoins.{HasSortedOperations, counts_of, telling};
 ghost use Rattle.command_write.specs.Begun.{EndsBegun};
 ghost use Rattle.command_common.specs.Ends.{EndsStreamed};
 ghost use Rattle.command_common.specs.Inputs.{IsRefusedOps, ReadsInput, reader};
@@ -23,8 +23,8 @@ use command_common::{CommandFault, Status, first_refusal, publish_draft, read_op
 use memory::Heap;
 use text_reports::apply_line;
 
-/// Writes IN's archive to OUT with those operations of so many that are new in their turn, and to the report how many
-/// were new and how many were known, and the sizes.
+/// Writes IN's archive with these operations to OUT, and to the report the numbers of new and known ones among the
+/// `number` operations of OPS, and the sizes.
 fn write_applied<R: Source, T: Target, P: Sink>(
     heap: Heap,
     input: &mut R,
@@ -48,11 +48,11 @@ fn write_applied<R: Source, T: Target, P: Sink>(
     publish_draft(lines, sizes, out, report)
 }
 
-/// Reads OPS, and gives those of its operations that are new in their turn among them, in the order of their records,
-/// and how many it has.
+/// Reads OPS. Returns those of its operations that are new when applied in order, sorted by their records, and the
+/// number of all its operations.
 fn read_new<S: Source>(heap: Heap, ops: &mut S) -> Result<(Vec<Operation, Heap>, u64), CommandFault>
     ensures { ReadsInput (reader S.left S.failures ops.old ops.new) result
-        (λ ops both. HasNewOf ops both.0.items both.1) IsRefusedOps }
+        (λ ops both. HasSortedOperations ops both.0.items both.1) IsRefusedOps }
 {
     let operations = read_operations(heap, ops)?;
     let number = operations.len() as u64;
@@ -60,15 +60,15 @@ fn read_new<S: Source>(heap: Heap, ops: &mut S) -> Result<(Vec<Operation, Heap>,
     Ok((sorted, number))
 }
 
-/// Writes IN's archive to OUT with the operations of an operations file, and to the report how many of them were new
-/// and how many were known, there or covered by a retirement, and the sizes. OPS is read first, to its end, and then IN
-/// is merged with its operations as it comes, in the memory of these, of one record and of 57 bytes for each
-/// retirement. Where OPS is refused, IN is tested to its end before that is told.
+/// Writes IN's archive with the operations of an operations file to OUT, and to the report the number of new ones, the
+/// number of known ones (in IN, earlier in OPS or covered by a retirement), and the sizes. OPS is read first, to its
+/// end; then IN is merged with its operations as it is read, in the memory of these, of one record and of 57 bytes for
+/// each retirement. If OPS is refused, IN is tested to its end before that is reported.
 ///
 /// # Errors
 ///
-/// `Input` for the first input that is refused, in the order of the command line; `Output` and `Report` where that
-/// writer failed; `OutOfMemory`.
+/// `Input` for the first input that is refused, in the order of the command line; `Output` and `Report` if that writer
+/// failed; `OutOfMemory`.
 pub fn run_apply<R: Source, S: Source, T: Target, P: Sink>(
     heap: Heap,
     input: &mut R,

@@ -1,4 +1,4 @@
-//! The slices of files as they come, each once, and the rows of these files.
+//! The slices of files as they are read, each once, and the rows of these files.
 ghost use Rattle.std.specs.Prelude.{◌≡◌, ◌++◌, ◌∷◌, ℕ, ◌<◌, List, [], length, map, IfOk, OnOk};
 ghost use Rattle.std.specs.Prelude.{slice_index_or, slice_set};
 ghost use Rattle.std.specs.FinSet as set;
@@ -9,7 +9,8 @@ ghost use Rattle.archive_merge.specs.Arrivals.{is_new};
 ghost use Rattle.text_reports.specs.declared.rows.AdmitRow.{AdmitRow};
 ghost use Rattle.command_write.specs.declared.file_rows.FileRow.{FileRow};
 ghost use Rattle.command_write.specs.declared.file_rows.FileRow.TheVariants.{Part, PassedOver};
-ghost use Rattle.command_write.specs.InnerArriving.{AreFirstRows, images_in, record_in, updated_row, row_of, updated_rows};
+ghost use Rattle.command_write.specs.InnerArriving.{AreFirstRows, images_in, record_in};
+ghost use Rattle.command_write.specs.InnerArriving.{updated_row, row_of, updated_rows};
 ghost use Rattle.command_write.specs.InnerArriving.{slice_rows, updated_taken};
 ghost use Rattle.command_write.specs.PassedOver.{part_rows};
 
@@ -22,7 +23,7 @@ use command_common::Why;
 use memory::{Heap, NoMemory};
 use text_reports::AdmitRow;
 
-/// The slices that came, each once, the rows of their files, and beside each slice the number of its first row.
+/// The slices, each once, the rows of their files, and for each slice the number of its first row.
 #[derive(Drop)]
 pub struct Arrivals {
     pub came: PlainArchive,
@@ -31,7 +32,7 @@ pub struct Arrivals {
 }
 
 impl Arrivals {
-    /// No slice, and no row.
+    /// No slices, and no rows.
     pub fn none(heap: &Heap) -> Arrivals
         ensures came { result.came ≡ set.empty }
         ensures first_rows { result.first_rows.items ≡ [] }
@@ -44,7 +45,7 @@ impl Arrivals {
         }
     }
 
-    /// Takes a slice, whose row is to come next, and tells what became of it.
+    /// Adds a slice, whose row is to be added next, and returns its outcome.
     fn take_slice(&mut self, mut slice: Slice) -> Result<Taken, NoMemory>
         ensures came { OnOk result (self.new.came ≡ admitted self.old.came (slice ∷ [])) }
         ensures taken { IfOk result (λ taken. taken ≡ taken_of self.old.came slice) }
@@ -61,7 +62,7 @@ impl Arrivals {
         let index = self.came.admit_at(slice)?;
         match index {
             Some(index) => {
-                // There are as many first rows as slices, so that this is the index itself.
+                // There are as many first rows as slices, so this is the index itself.
                 let at = index.min(self.first_rows.len());
                 self.first_rows.insert(at, row)?;
                 Ok(Taken::Added(key, digest))
@@ -70,7 +71,7 @@ impl Arrivals {
         }
     }
 
-    /// Adds the row of a part of a file, or of the file, which is passed over.
+    /// Adds the row of a part of a file, or of a file that is passed over.
     fn push_row(&mut self, file: u64, told: Result<(u64, Taken), Why>) -> Result<(), NoMemory>
         ensures rows { OnOk result (self.new.rows.items ≡ self.old.rows.items ++ row_of file told ∷ []) }
         ensures came { self.new.came ≡ self.old.came }
@@ -84,7 +85,7 @@ impl Arrivals {
         Ok(())
     }
 
-    /// Takes a part of a file, where it is a slice, and adds its row.
+    /// Adds a part of a file, if it is a slice, and its row.
     fn take_part(&mut self, file: u64, number: u64, part: Option<Slice>) -> Result<(), NoMemory>
         ensures came { OnOk result (self.new.came ≡ admitted self.old.came (images_in (part ∷ []))) }
         ensures rows { OnOk result (self.new.rows.items
@@ -103,7 +104,7 @@ impl Arrivals {
         }
     }
 
-    /// Takes the slices of the file of this number, and adds a row for each of its parts.
+    /// Adds the slices of the file with this number, and a row for each of its parts.
     pub fn take_slices(
         &mut self,
         file: u64,
@@ -125,7 +126,7 @@ impl Arrivals {
         Ok(())
     }
 
-    /// Adds the row of the file of this number, which is passed over.
+    /// Adds the row of the file with this number, which is passed over.
     pub fn pass_over(&mut self, file: u64, why: Why) -> Result<(), NoMemory>
         ensures came { self.new.came ≡ self.old.came }
         ensures rows { OnOk result (self.new.rows.items ≡ self.old.rows.items ++ PassedOver file why ∷ []) }
@@ -138,7 +139,7 @@ impl Arrivals {
     }
 }
 
-/// What became of a slice, told again: one that was added is known, if it is not new.
+/// The updated outcome of a slice: one that was added is known if it is not new.
 fn updated_taken(taken: Taken, new: bool) -> Taken
     ensures { result ≡ updated_taken new taken }
 {
@@ -176,7 +177,7 @@ fn update_row(rows: &mut [FileRow], number: usize, new: bool)
     rows[number] = updated_row(rows[number], new);
 }
 
-/// Tells the rows again of which slices came, by what each of these is to IN.
+/// Updates the rows of the slices by the arrival of each in IN.
 pub fn update_rows(rows: &mut [FileRow], first_rows: &[u64], told: &[Arrival])
     requires { (came records : List (List ℕ)) × AreFirstRows came first_rows.now rows.old records
         × (length told.now ≡ length came) }

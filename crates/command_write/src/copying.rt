@@ -1,4 +1,4 @@
-//! The records of an archive that a summary does not name, copied as they come.
+//! The records of an archive that a summary does not name, copied as they are read.
 
 ghost use Rattle.std.specs.Prelude.{◌≡◌, ◌+◌, ◌<◌, ◌≤◌, ◌^◌, [], ℕ, List, Option, length, OnOk, IfOk, IfErr};
 ghost use Rattle.std.specs.Prelude.{MatchResult};
@@ -71,7 +71,7 @@ fn copy_records<R: Source, W: Sink>(
     }
 }
 
-/// Reads the magic, and writes that of version 2; gives how many bytes were written, too.
+/// Reads the magic, writes that of version 2, and returns the reader and the number of bytes written.
 fn begin_copy<R: Source, W: Sink>(
     heap: Heap,
     r: &mut R,
@@ -103,7 +103,7 @@ fn begin_copy<R: Source, W: Sink>(
     }
 }
 
-/// Tests that the archive ends where its end record does, and writes one after the copy, which has these sizes.
+/// Tests that the archive ends after its end record, and writes an end record after the copy, which has these sizes.
 fn end_copy<R: Source, W: Sink>(
     reader: &RecordReader,
     r: &mut R,
@@ -133,14 +133,14 @@ fn end_copy<R: Source, W: Sink>(
     }
 }
 
-/// Writes the archive of those operations of the one that is read whose entries the summary does not have, in the
-/// memory of one record and of 57 bytes for each retirement, and says how large it is. Each slice is checked and hashed
-/// once, and none is copied.
+/// Writes the archive of those operations of the input whose entries the summary does not have, in the memory of one
+/// record and of 57 bytes for each retirement, and returns its sizes. Each slice is checked and hashed once, and none
+/// is copied.
 ///
 /// # Errors
 ///
-/// `Left` with the fault that `read_archive` of `archive_read` gives; `Write` where the writer failed. The writer
-/// has a beginning of an archive then.
+/// `Left` with the fault of `read_archive` of `archive_read`; `Write` if the writer failed. The written bytes are then
+/// a beginning of an archive.
 pub fn copy_unnamed<R: Source, W: Sink>(
     heap: Heap,
     summary: &Summary,

@@ -15,7 +15,7 @@ use byte_device::{Output, Sink, Source, Target};
 use command_common::{CommandFault, Status, first_refusal, publish_draft, read_summary_input};
 use memory::Heap;
 
-/// Copies what the summary does not name of ARCHIVE into the draft.
+/// Copies the records of ARCHIVE that the summary does not name into the draft.
 fn copy_input<R: Source, W: Sink>(
     heap: Heap,
     archive: &mut R,
@@ -47,14 +47,14 @@ fn write_unnamed<R: Source, T: Target, P: Sink>(
 }
 
 /// Writes the archive of those operations of ARCHIVE whose entries are not in SUMMARY to OUT, and its sizes to the
-/// report. SUMMARY is read first, to its end, and then ARCHIVE, whose records go to OUT as they come, in the memory of
-/// the summary, of one record and of 57 bytes for each retirement. Where SUMMARY is refused, ARCHIVE is tested to its
-/// end before that is told.
+/// report. SUMMARY is read first, to its end; then ARCHIVE is read, and its records are written to OUT as they are
+/// read, in the memory of the summary, of one record and of 57 bytes for each retirement. If SUMMARY is refused,
+/// ARCHIVE is tested to its end before that is reported.
 ///
 /// # Errors
 ///
-/// `Input` for the first input that is refused, in the order of the command line; `Output` and `Report` where that
-/// writer failed; `OutOfMemory`.
+/// `Input` for the first input that is refused, in the order of the command line; `Output` and `Report` if that writer
+/// failed; `OutOfMemory`.
 pub fn run_delta<R: Source, S: Source, T: Target, P: Sink>(
     heap: Heap,
     archive: &mut R,

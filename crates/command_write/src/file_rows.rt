@@ -1,4 +1,4 @@
-//! The rows of `admit`: one for each part of a file that is accepted, and one for each file that is passed over.
+//! The rows of `admit`: one for each part of an accepted file, and one for each file that is passed over.
 
 ghost use Rattle.std.specs.Prelude.{◌≡◌, IfOk, string_bytes};
 ghost use Rattle.command_write.specs.FileRows.{file_lines};
@@ -8,10 +8,10 @@ use memory::{Heap, NoMemory};
 use std::fmt;
 use text_reports::AdmitRow;
 
-/// A row of `admit`. Files are counted from 0.
+/// A row of `admit`. Files are numbered from 0.
 #[derive(Clone, Copy, Debug, PartialEq, Eq)]
 pub enum FileRow {
-    /// A part of a file that is accepted.
+    /// A part of an accepted file.
     Part(AdmitRow),
     /// A file that is passed over, and why.
     PassedOver { file: u64, why: Why },
@@ -32,7 +32,7 @@ impl fmt::Display for FileRow {
     }
 }
 
-/// The lines of rows, in their order.
+/// The lines of rows, in order.
 pub fn file_lines(heap: Heap, rows: &[FileRow]) -> Result<String<Heap>, NoMemory>
     ensures { IfOk result (λ text. string_bytes text ≡ file_lines rows.now) }
 {

@@ -1,4 +1,4 @@
-//! IN's archive, merged into OUT's draft with one that is at hand.
+//! IN's archive, merged into OUT's draft with one in memory.
 ghost use Rattle.byte_device.specs.Devices.{stream};
 ghost use Rattle.command_common.specs.Inputs.{reader};
 ghost use Rattle.command_write.specs.Joining.{IsAtHand, JoinsAmidst};
@@ -10,7 +10,7 @@ use byte_device::{Sink, Source};
 use command_common::{CommandFault, InputName, refusal};
 use memory::Heap;
 
-/// What is told where this stopped a merge, the left side being archive 0 and the right one archive 1.
+/// The fault that is reported if this stopped a merge; the left side is archive 0, and the right one archive 1.
 pub fn command_fault_of(fault: MergeFault) -> CommandFault
     ensures { IsMergeFaultTold fault result }
 {
@@ -21,7 +21,7 @@ pub fn command_fault_of(fault: MergeFault) -> CommandFault
     }
 }
 
-/// Merges IN's archive with the one at hand into the draft.
+/// Merges IN's archive with the one in memory into the draft.
 pub fn join_input<R: Source, S: Source, W: Sink>(
     heap: &Heap,
     input: &mut R,

@@ -37,7 +37,7 @@ fn join_file<A: Archive + Drop, S: Source>(
     Ok(())
 }
 
-/// Joins the archives of the files, in their order. IN being archive 0, the first file is archive 1.
+/// Joins the archives of the files, in order. IN is archive 0, and the first file archive 1.
 fn join_files<A: Archive + Drop, S: Source>(
     heap: &Heap,
     archive: &mut A,
@@ -77,7 +77,7 @@ fn joined_text<A: Archive + Drop, S: Source>(
     text_in_memory(heap, &joined)
 }
 
-/// Writes the join of IN's archive with the one of this text to OUT as IN comes, and its sizes to the report.
+/// Writes the join of IN's archive with the archive of this text to OUT as IN is read, and its sizes to the report.
 fn merge_text<R: Source, T: Target, P: Sink>(
     heap: Heap,
     input: &mut R,
@@ -96,7 +96,7 @@ fn merge_text<R: Source, T: Target, P: Sink>(
 }
 
 /// Writes the join of IN's archive with that of each file to OUT, and its sizes to the report. The files are read and
-/// joined first, and then IN goes to OUT as it comes.
+/// joined first; then the join is written to OUT as IN is read.
 fn merge_in_turn<A: Archive + Drop, R: Source, S: Source, T: Target, P: Sink>(
     heap: Heap,
     input: &mut R,
@@ -115,7 +115,7 @@ fn merge_in_turn<A: Archive + Drop, R: Source, S: Source, T: Target, P: Sink>(
     }
 }
 
-/// Merges IN's archive with that of the one file into OUT as they come, and writes the sizes to the report.
+/// Merges IN's archive with that of the one file into OUT as both are read, and writes the sizes to the report.
 fn merge_one<R: Source, S: Source, T: Target, P: Sink>(
     heap: Heap,
     input: &mut R,
@@ -135,15 +135,14 @@ fn merge_one<R: Source, S: Source, T: Target, P: Sink>(
 }
 
 /// Writes the join of IN's archive with that of each file to OUT, and its sizes to the report. With one file the two
-/// are merged as they come, in the memory of their retirements and of one record of each. With more the files are read
-/// first, in the order of the command line, each to its end, and joined in memory, and IN is merged with the join as it
-/// comes; where a file is refused, IN is tested to its end before that is told.
+/// are merged as they are read, in the memory of their retirements and of one record of each. With more, the files are
+/// read first, in the order of the command line, each to its end, and joined in memory; then IN is merged with the join
+/// as it is read. If a file is then refused, IN is tested to its end before that is reported.
 ///
 /// # Errors
 ///
-/// `Input` for the first archive that is refused, IN being archive 0 and the first file archive 1; with one file for
-/// the one that stops their merge.
-/// `Output` and `Report` where that writer failed; `OutOfMemory`.
+/// `Input` for the first archive that is refused, where IN is archive 0 and the first file archive 1; with one file,
+/// for the archive that stops their merge. `Output` and `Report` if that writer failed; `OutOfMemory`.
 pub fn run_merge<A: Archive + Drop, R: Source, S: Source, T: Target, P: Sink>(
     heap: Heap,
     input: &mut R,

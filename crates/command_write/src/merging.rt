@@ -1,4 +1,4 @@
-//! IN's archive, merged into OUT's draft with operations that are at hand, and what each of these is to IN.
+//! IN's archive, merged into OUT's draft with operations in memory, and the arrival of each of these in IN.
 ghost use Rattle.std.specs.Prelude.{map};
 ghost use Rattle.std.specs.Cmp.Lexicographic.{slice_cmp};
 ghost use Rattle.std.specs.FinSet as set;
@@ -20,7 +20,7 @@ use byte_device::{Sink, Source};
 use command_common::CommandFault;
 use memory::Heap;
 
-/// Merges IN's archive with operations that stand in memory into the draft, and tells what each is to IN.
+/// Merges IN's archive with operations in memory into the draft, and returns the arrival of each in IN.
 pub fn merge_operations<R: Source, W: Sink>(
     heap: &Heap,
     input: &mut R,

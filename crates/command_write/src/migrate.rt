@@ -18,13 +18,13 @@ fn empty_text() -> [u8; 17]
     *b"MSYMARC2\x03\0\0\0\0\0\0\0\0"
 }
 
-/// Writes the content that IN's archive gives to OUT, and its sizes to the report: an archive of version 1 becomes one
-/// of version 2, and one of version 2 keeps its bytes. IN is merged as it comes with an archive that holds nothing, in
-/// the memory of one record and of 57 bytes for each retirement.
+/// Writes the content of IN's archive to OUT, and its sizes to the report: an archive of version 1 becomes one of
+/// version 2, and one of version 2 keeps its bytes. IN is merged as it is read with the empty archive, in the memory of
+/// one record and of 57 bytes for each retirement.
 ///
 /// # Errors
 ///
-/// `Input` where the archive is refused; `Output` and `Report` where that writer failed; `OutOfMemory`.
+/// `Input` if the archive is refused; `Output` and `Report` if that writer failed; `OutOfMemory`.
 pub fn run_migrate<R: Source, T: Target, P: Sink>(
     heap: Heap,
     input: &mut R,

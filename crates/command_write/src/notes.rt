@@ -1,4 +1,4 @@
-//! Notes that a command adds: of slices that IN retires, and of one that it does not have.
+//! The notes that a command adds: for slices that IN retires, and for a slice that IN does not have.
 ghost use Rattle.std.specs.Prelude.{◌≡◌, ◌++◌, ◌∷◌, List, [], length, map, ℕ, OnOk, if◌then◌else◌};
 ghost use Rattle.std.specs.List.{flat_map};
 ghost use Rattle.archive_core.specs.Record.{record_bytes};
@@ -10,7 +10,7 @@ use archive_merge::Arrival;
 use command_common::Note;
 use memory::{Heap, NoMemory};
 
-/// Adds the note of an operation that came, where it is a slice that IN retires.
+/// Adds the note of an operation, if it is the admission of a slice that IN retires.
 fn note_operation(
     notes: &mut Vec<Note, Heap>,
     operation: &Operation,
@@ -30,7 +30,7 @@ fn note_operation(
     }
 }
 
-/// Adds a note of each slice that IN retires among the operations that came, in their order, by what each is to IN.
+/// Adds a note for each slice that IN retires among these operations, in order, by the arrival of each in IN.
 pub fn note_retired(
     notes: &mut Vec<Note, Heap>,
     operations: &[Operation],
@@ -48,7 +48,7 @@ pub fn note_retired(
     Ok(())
 }
 
-/// Adds a note of a slice that is retired, unless IN had it.
+/// Adds a note for a slice to retire, unless IN had it.
 pub fn note_missing(
     notes: &mut Vec<Note, Heap>,
     had: bool,

@@ -28,8 +28,8 @@ struct Written {
     had: bool,
 }
 
-/// Merges IN's archive with the retirement into the draft, and tells whether that changed it, and whether it had such a
-/// slice.
+/// Merges IN's archive with the retirement into the draft, and returns whether that changed it, and whether it had such
+/// a slice.
 fn retire_input<R: Source, W: Sink>(
     heap: &Heap,
     input: &mut R,
@@ -50,13 +50,13 @@ fn retire_input<R: Source, W: Sink>(
     })
 }
 
-/// Writes IN's archive to OUT with the retirement of the slices under the key that have the digest, and to the report
-/// whether it is new, and the sizes. IN is merged as it comes with the retirement, in the memory of one record and of
-/// 57 bytes for each retirement. Where IN has no such slice, a note is added that says so.
+/// Writes IN's archive with the retirement of the slices under the key that have the digest to OUT, and to the report
+/// whether it is new, and the sizes. IN is merged as it is read with the retirement, in the memory of one record and of
+/// 57 bytes for each retirement. If IN has no such slice, a note that says so is added.
 ///
 /// # Errors
 ///
-/// `Input` where the archive is refused; `Output` and `Report` where that writer failed; `OutOfMemory`.
+/// `Input` if the archive is refused; `Output` and `Report` if that writer failed; `OutOfMemory`.
 pub fn run_retire<R: Source, T: Target, P: Sink>(
     heap: Heap,
     input: &mut R,

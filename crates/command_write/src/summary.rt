@@ -7,7 +7,7 @@ use byte_device::{Output, Sink, Target};
 use command_common::{CommandFault, Evidence, Status, publish_summary};
 use memory::Heap;
 
-/// Writes the summary of ARCHIVE's content to OUT, and to the report how many entries and bytes it has.
+/// Writes the summary of ARCHIVE's content to OUT, and to the report its numbers of entries and bytes.
 ///
 /// # Errors
 ///

@@ -1,11 +1,10 @@
--- Addresses that are pending, and what was found for others.
+-- Pending addresses, and the values of the others.
 use Rattle.std.specs.Prelude.{ℕ, true, false, ◌≡◌, ◌≤◌, ◌<◌, Some}
 use Rattle.std.specs.Ordering.{nat_cmp}
 use Rattle.std.specs.BTreeSet as tree_set
 use Rattle.std.specs.BTreeMap as tree_map
 
--- each pending address from one on and below another one was given this value and is pending no longer; all others are
--- as they were
+-- each pending address from `from` on, below `end`, gets this value and is no longer pending; the others are unchanged
 pub record Assigns {T : Type 0} (from end : ℕ) (value : T) (pending : tree_set.BTreeSet ℕ)
     (found : tree_map.BTreeMap ℕ T)
     (left : tree_set.BTreeSet ℕ) (now_found : tree_map.BTreeMap ℕ T) : Type 0 where

@@ -1,4 +1,4 @@
-//! What was found for each address.
+//! The answers for many addresses.
 
 ghost use Rattle.std.specs.Prelude.{◌≡◌, ◌<◌, ℕ, None, IfOk, length, slice_index, slice_index_or};
 ghost use Rattle.std.specs.Ordering.{nat_cmp};
@@ -7,7 +7,8 @@ ghost use Rattle.std.specs.BTreeMap as tree_map;
 use memory::{Heap, NoMemory};
 use std::collections::BTreeMap;
 
-/// What was found for each address, in the order in which they are given.
+/// The answer for each address, in the order of the addresses; `None` for one without an answer. The error is
+/// `NoMemory`.
 pub fn answers_for<T: Copy + Drop>(
     heap: Heap,
     found: &BTreeMap<u64, T, Heap>,

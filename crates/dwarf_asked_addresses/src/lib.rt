@@ -1,11 +1,11 @@
-//! What waits for an answer, of many addresses that are asked together: each is taken once, so that ranges that overlap
+//! Addresses that are looked up together. An address with an answer is no longer pending, so that overlapping ranges
 //! cost no more than the addresses that they answer.
 //!
-//! - `pending`: [`pending_addresses`], the set; [`assign_within`], a value
-//!   for all of them;
-//! - `answers`: [`answers_for`], what was found for each address, in the order in which they were asked;
-//! - `rising`: [`sorted_once`], addresses in order, each once, and [`count_below`], how many of them are below one;
-//! - `waiting`: [`Waiting`], which indexes of these wait: a pass over some costs no more than those that still wait.
+//! - `pending`: [`pending_addresses`], the set; [`assign_within`], a value for all pending addresses in a range;
+//! - `answers`: [`answers_for`], the answer for each address, in the order of the addresses;
+//! - `rising`: [`sorted_once`], addresses in order, each once, and [`count_below`], the number of those below one;
+//! - `waiting`: [`Waiting`], the waiting indexes of these: a pass over a range costs no more than those that still
+//!   wait.
 #![tactic(auto)]
 
 mod answers;

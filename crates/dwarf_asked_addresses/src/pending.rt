@@ -1,4 +1,4 @@
-//! The set of the addresses that wait.
+//! The set of pending addresses.
 
 ghost use Rattle.std.specs.Prelude.{◌≡◌, ◌≤◌, ◌<◌, ◌+◌, ℕ, true, false, OnOk, IfOk, IfSome, IfNone, slice_index};
 ghost use Rattle.std.specs.Prelude.{EachIndex};
@@ -21,7 +21,8 @@ pub fn pending_addresses(heap: Heap, addresses: &[u64]) -> Result<BTreeSet<u64, 
     Ok(all)
 }
 
-/// Takes an address from `from` on, below `end`, out of those that are pending. It costs one search.
+/// Removes one of the pending addresses from `from` on, below `end`, and returns it; `None` if there is none. It costs
+/// one search.
 fn take_within(pending: &mut BTreeSet<u64, Heap>, from: u64, end: u128) -> Option<u64>
     ensures within { IfSome result (λ a. (from ≤ a) × (a < end)) }
     ensures member { IfSome result (λ a. tree_set.contains nat_cmp pending.old a ≡ true) }
@@ -38,7 +39,7 @@ fn take_within(pending: &mut BTreeSet<u64, Heap>, from: u64, end: u128) -> Optio
     Some(found)
 }
 
-/// Gives a value to each pending address from `from` on, below `end`. These are pending no longer.
+/// Assigns a value to each pending address from `from` on, below `end`, which is then no longer pending.
 pub fn assign_within<T: Copy + Drop>(
     pending: &mut BTreeSet<u64, Heap>,
     found: &mut BTreeMap<u64, T, Heap>,

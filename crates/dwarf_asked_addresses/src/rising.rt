@@ -1,4 +1,4 @@
-//! Numbers that rise, each once.
+//! Numbers that ascend, each once.
 
 ghost use Rattle.std.specs.Prelude.{◌↔◌, ◌≤◌, ℕ, length};
 ghost use Rattle.std.specs.List.{Contains};
@@ -6,7 +6,7 @@ ghost use Rattle.dwarf_asked_addresses.specs.Rising.{IsCountBelow, AreRising};
 
 use memory::Heap;
 
-/// Some numbers, each once, so that they rise.
+/// These numbers in ascending order, each once.
 pub fn sorted_once(mut all: Vec<u64, Heap>) -> Vec<u64, Heap>
     ensures rising { AreRising result.items }
     ensures same { (a : ℕ) → Contains result.items a ↔ Contains all.items a }
@@ -16,7 +16,7 @@ pub fn sorted_once(mut all: Vec<u64, Heap>) -> Vec<u64, Heap>
     all
 }
 
-/// How many of some numbers, which rise, are below an address.
+/// The number of starts, which ascend, below an address.
 pub fn count_below(starts: &[u64], address: u64) -> usize
     ensures bound { result ≤ length starts.now }
     ensures is { AreRising starts.now → IsCountBelow starts.now address result }

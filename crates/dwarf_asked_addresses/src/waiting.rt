@@ -1,11 +1,12 @@
-//! Indexes that wait, of which each is passed over once it waits no longer.
+//! Waiting indexes. An index that no longer waits is skipped.
 
 ghost use Rattle.std.specs.Prelude.{◌≡◌, ◌<◌, ◌+◌, ◌^◌, ℕ, IfOk, length};
 ghost use Rattle.dwarf_asked_addresses.specs.Waiting.{AreNext, IsFirstWaiting, Waits, WaitTheSame, WaitWithout};
 
 use memory::{Heap, NoMemory};
 
-/// Which of so many indexes wait. Each has one, not below it, up to which none waits; the last one waits always.
+/// Indexes, some of which wait. Each has a next index, at or above it; those from it on, below the next one, do not
+/// wait. The last index always waits.
 #[derive(Drop)]
 pub struct Waiting {
     next: Vec<usize, Heap>,
@@ -13,7 +14,7 @@ pub struct Waiting {
 }
 
 impl Waiting {
-    /// So many indexes and the last one, which all wait.
+    /// `count` indexes and a last one, which all wait.
     pub fn new(heap: Heap, count: usize) -> Result<Waiting, NoMemory>
         requires { count + 1 < 2 ^ 64 }
         ensures count { IfOk result (λ waiting. length waiting.next.items ≡ count + 1) }
@@ -26,7 +27,7 @@ impl Waiting {
         Ok(Waiting { next })
     }
 
-    /// The first index from one on that waits.
+    /// The first waiting index, from `index` on.
     pub fn first_from(&mut self, index: usize) -> usize
         requires { index < length self.old.next.items }
         ensures found { IsFirstWaiting self.old.next.items index result }
@@ -41,7 +42,7 @@ impl Waiting {
         found
     }
 
-    /// An index waits no longer.
+    /// An index no longer waits.
     pub fn end(&mut self, index: usize)
         requires { index + 1 < length self.old.next.items }
         ensures { WaitWithout index self.old.next.items self.new.next.items }

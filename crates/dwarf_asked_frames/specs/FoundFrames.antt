@@ -13,7 +13,7 @@ use Rattle.dwarf_asked_frames.specs.declared.found.FrameList.{FrameList}
 abbrev pub frames_of_list : FrameList → List FrameRecord
 frames_of_list list = map (λ f. frame_view f) list.frames.items
 
--- those of a list, if there is one
+-- the frames of a list; none without a list
 abbrev pub frames_or_none : Option FrameList → List FrameRecord
 frames_or_none None = []
 frames_or_none (Some list) = frames_of_list list
@@ -22,15 +22,15 @@ frames_or_none (Some list) = frames_of_list list
 abbrev pub found_frames : tree_map.BTreeMap ℕ FrameList → ℕ → List FrameRecord
 found_frames found address = frames_or_none (tree_map.get nat_cmp found address)
 
--- the frames under an address
+-- the frames of an address
 abbrev pub frames_under : AddressFrames → ℕ → List FrameRecord
 frames_under frames address = found_frames frames.found address
 
--- what was found is right
+-- the frames that were found are right
 pub record AreRight (sections : DebugSectionsRecord) (found : tree_map.BTreeMap ℕ FrameList) : Type 0 where
   pub each : (address : ℕ) →
       IfSome (tree_map.get nat_cmp found address) (λ list. AreFramesBy sections address (frames_of_list list))
 
--- all that an address has was found
+-- all frames of an address were found
 pub record IsFound (sections : DebugSectionsRecord) (found : tree_map.BTreeMap ℕ FrameList) (address : ℕ) : Type 0 where
   pub frames : AreFramesBy sections address (found_frames found address)

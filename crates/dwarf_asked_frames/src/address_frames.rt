@@ -24,7 +24,8 @@ pub struct AddressFrames<'a> {
     found: Found<'a>,
 }
 
-/// The frames of addresses under the offsets of their units, one unit after another, with the units of `__debug_line`.
+/// The frames of addresses that are grouped by the offsets of their units, one unit after another; `line_units` are the
+/// units of `__debug_line`.
 fn find_all<'a>(
     heap: Heap,
     info: &DebugInfo<'a>,
@@ -53,7 +54,7 @@ fn find_all<'a>(
     Ok(found)
 }
 
-/// The frames of addresses, by the DWARF of their image.
+/// The frames of addresses, from the DWARF of their image.
 fn find<'a>(heap: Heap, info: &DebugInfo<'a>, addresses: &[u64]) -> Result<Found<'a>, NoMemory>
     ensures { IfOk result (λ found. EachIndex addresses.now
         (λ i. IsFound (sections_view info.now.sections) found (slice_index addresses.now i))) }
@@ -66,7 +67,7 @@ fn find<'a>(heap: Heap, info: &DebugInfo<'a>, addresses: &[u64]) -> Result<Found
 }
 
 impl<'a> AddressFrames<'a> {
-    /// The frames of an address, the innermost first. It has none if this is `None`, or has no element.
+    /// The frames of an address, the innermost first. `None` and an empty slice both mean that it has none.
     pub fn get(&self, address: u64) -> Option<&[SourceFrame<'a>]>
         ensures { option_map_or (λ frames. map (λ f. frame_view f) frames.now) result []
             ≡ frames_under self.now address }
@@ -76,9 +77,9 @@ impl<'a> AddressFrames<'a> {
     }
 }
 
-/// The frames of each of some addresses of an image. It takes the time of `__debug_aranges`, of the declarations, of
-/// the units that have an address, which are read once, of their programs, which are run once, and of the frames; and
-/// the memory of the frames, and for one unit after another of the functions that contain an address.
+/// The frames of these addresses of an image. The time is that of reading `__debug_aranges` and the declarations, of
+/// reading each unit with one of the addresses once and running its program once, and of the frames. The memory is that
+/// of the frames, and of the functions that contain an address, for one unit after another.
 pub fn frames_of<'a>(
     heap: Heap,
     image: &Image<'a>,

@@ -14,10 +14,10 @@ pub(crate) struct FrameList<'a> {
     pub frames: Vec<SourceFrame<'a>, Heap>,
 }
 
-/// The frames that were found, under their addresses.
+/// The frames that were found, by their addresses.
 pub(crate) type Found<'a> = BTreeMap<u64, FrameList<'a>, Heap>;
 
-/// Puts the frames of an address under it.
+/// Adds the frames of an address.
 pub(crate) fn put_frames<'a>(
     found: &mut Found<'a>,
     address: u64,

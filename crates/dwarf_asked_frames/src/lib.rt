@@ -1,5 +1,5 @@
 //! The frames of asked addresses of an image: [`frames_of`]. They are those of the rows and of the links of each unit
-//! that has one of the addresses, which are made for these addresses alone, one unit after another.
+//! that has one of the addresses, which are built for these addresses alone, one unit after another.
 //!
 //! The modules in reading order: `found`, the frames that were found for addresses; `link_frames`, those of a row and a
 //! link; `unit_frames`, those of the addresses of a unit; `address_frames`, those of addresses of an image.

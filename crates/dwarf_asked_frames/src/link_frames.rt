@@ -13,7 +13,7 @@ use dwarf_lines::Row;
 use dwarf_source_frames::{SourceFrame, SourceLocation, UnitLines};
 use memory::{Heap, NoMemory};
 
-/// The frame of a link at a place.
+/// The frame of a link at a source location.
 fn frame_at<'a>(lines: &UnitLines<'a>, link: &Link<'a>, place: SourceLocation) -> SourceFrame<'a>
     ensures { frame_view result ≡ frame_at_place (lines_view lines.now) (link_view link.now).name place }
 {
@@ -25,7 +25,7 @@ fn frame_at<'a>(lines: &UnitLines<'a>, link: &Link<'a>, place: SourceLocation) -
     }
 }
 
-/// The frames of the link of a number, the innermost first, which is at a place.
+/// The frames of the link with a number, the innermost first, which has the given source location.
 fn frames_of_link<'a>(
     heap: Heap,
     lines: &UnitLines<'a>,
@@ -50,7 +50,7 @@ fn frames_of_link<'a>(
     Ok(frames)
 }
 
-/// The frame of a row alone, if there is one.
+/// The frame of a row alone, which has no function; none without a row.
 fn frames_of_row<'a>(
     heap: Heap,
     lines: &UnitLines<'a>,
@@ -67,7 +67,8 @@ fn frames_of_row<'a>(
     Ok(FrameList { frames })
 }
 
-/// The frames of a row and of the link of a number, the innermost first: without a link the row alone.
+/// The frames of a row and of the link with a number, the innermost first: if there is no link, the frame of the row
+/// alone.
 pub(crate) fn frames_at<'a>(
     heap: Heap,
     lines: &UnitLines<'a>,

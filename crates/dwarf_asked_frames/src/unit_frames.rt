@@ -47,7 +47,8 @@ fn find_in<'a>(
     Ok(())
 }
 
-/// Finds the frames of the addresses of the unit at an offset, which ascend, with the units of `__debug_line`.
+/// Finds the frames of the addresses of the unit at an offset, which ascend; `line_units` are the units of
+/// `__debug_line`.
 pub(crate) fn find_unit<'a>(
     heap: Heap,
     info: &DebugInfo<'a>,

@@ -29,7 +29,7 @@ use Rattle.dwarf_encoding.specs.FormNumbers.{DW_FORM_rnglistx, DW_FORM_ref_sup8,
 use Rattle.dwarf_encoding.specs.FormNumbers.{DW_FORM_strx2, DW_FORM_strx3, DW_FORM_strx4, DW_FORM_addrx1}
 use Rattle.dwarf_encoding.specs.FormNumbers.{DW_FORM_addrx2, DW_FORM_addrx3, DW_FORM_addrx4}
 
--- the value of a class that is written as a number
+-- the value of a class that is encoded as a number
 abbrev pub class_value : Class → ℕ → ValueRecord
 class_value Address number = Address_ number
 class_value AddressIndex number = AddressIndex_ number
@@ -43,13 +43,13 @@ class_value SectionOffset number = SectionOffset_ number
 class_value RangeListIndex number = RangeListIndex_ number
 class_value Other number = Other_
 
--- a form is one of these
+-- the form is one of these
 abbrev pub is_one_of : List ℕ → ℕ → Bool
 is_one_of [] form = false
 is_one_of (one ∷ []) form = form == one
 is_one_of (one ∷ other ∷ others) form = (form == one) || is_one_of (other ∷ others) form
 
--- how many bytes each value of a form has; DW_FORM_ref_addr has the size of an address in version 2
+-- the size in bytes of each value of a form; DW_FORM_ref_addr has the size of an address in version 2
 abbrev pub fixed_size : ℕ → ℕ → Option ℕ
 fixed_size version form =
     if form == DW_FORM_flag_present then Some 0
@@ -65,7 +65,7 @@ fixed_size version form =
     else if form == DW_FORM_ref_addr then Some (if version == 2 then 8 else 4)
     else None
 
--- the class of the values that a form writes as numbers
+-- the class of the values that a form encodes as numbers
 abbrev pub class_of : ℕ → Class
 class_of form =
     if form == DW_FORM_addr then Address
@@ -84,7 +84,7 @@ class_of form =
     else if form == DW_FORM_rnglistx then RangeListIndex
     else Other
 
--- the little-endian number in one, two, three, four or eight bytes; of other sizes none is asked for
+-- the little-endian number in one, two, three, four or eight bytes; no other size is used
 abbrev pub number_of_size : ℕ → List ℕ → ℕ
 number_of_size size bytes =
     if size == 1 then slice_index bytes 0
@@ -94,11 +94,11 @@ number_of_size size bytes =
     else if size == 8 then u64_le_at bytes 0
     else 0
 
--- so many bytes, and the bytes after them
+-- the first `size` bytes, and the bytes after them
 abbrev pub split_at : ℕ → List ℕ → Option (List ℕ × List ℕ)
 split_at size bytes = if nat_lt (length bytes) size then None else Some (take size bytes, drop size bytes)
 
--- the bytes after a block, whose length is a number of so many bytes
+-- the bytes after a block that begins with its length, a number of `size` bytes
 unfoldable pub after_block : ℕ → List ℕ → Option (List ℕ)
 after_block size bytes =
     if nat_lt (length bytes) size then None
@@ -119,15 +119,15 @@ variable_value_at form bytes =
     then option_and_then (λ x. option_map (λ y. (Other_, y.1)) (split_at x.0 x.1)) (unsigned_leb128_at bytes)
     else None
 
--- a value of a form, whose values have this size if they all have one
+-- a value of a form, whose values have this size if all have the same
 abbrev pub sized_value_at : Option ℕ → ℕ → List ℕ → Option (ValueRecord × List ℕ)
 sized_value_at None form bytes = variable_value_at form bytes
 sized_value_at (Some size) form bytes =
     if nat_lt (length bytes) size then None
     else Some (class_value (class_of form) (number_of_size size bytes), drop size bytes)
 
--- the value of a form that begins the bytes, and the bytes after it; a value of DW_FORM_implicit_const has no byte: its
--- number stands in the declaration
+-- the value of a form that begins the bytes, and the bytes after it; a value of DW_FORM_implicit_const has no bytes:
+-- its number is in the attribute's declaration
 unfoldable pub value_at : ℕ → ℕ → ℕ → List ℕ → Option (ValueRecord × List ℕ)
 value_at version form implicit bytes =
     if form == DW_FORM_implicit_const then Some (Constant_ implicit, bytes)

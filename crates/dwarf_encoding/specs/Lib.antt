@@ -9,6 +9,6 @@ pub mod Forms
 pub mod Views
 pub mod TextSections
 pub mod TextViews
--- the words of inner functions: no contract of a public one has them
+-- definitions of inner functions: no contract of a public function uses them
 pub mod UnitTable
 pub mod Inner

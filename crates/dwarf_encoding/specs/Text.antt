@@ -5,15 +5,15 @@ use Rattle.std.specs.List.{position_or_len, before_first, after_first}
 abbrev pub is_nul : ℕ → Bool
 is_nul byte = byte == 0
 
--- the text that begins the bytes, and the bytes after its NUL, if there is one
+-- the text that begins the bytes, and the bytes after its NUL; None if there is no NUL
 abbrev pub text_at : List ℕ → Option (List ℕ × List ℕ)
 text_at bytes =
     if nat_lt (position_or_len is_nul bytes) (length bytes)
     then Some (before_first is_nul bytes, after_first is_nul bytes)
     else None
 
--- the text from an offset of a section of texts, which ends before its NUL or with the section; past the section there
--- is none
+-- the text at an offset of a section of texts; it ends before its NUL or at the end of the section; None past the
+-- section
 abbrev pub text_in : List ℕ → ℕ → Option (List ℕ)
 text_in section offset =
     if nat_lt offset (length section) then Some (before_first is_nul (drop offset section)) else None

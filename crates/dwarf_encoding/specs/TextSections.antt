@@ -1,25 +1,25 @@
--- The texts that values are (DWARF 5, section 7.5.5, class string).
+-- The texts that attribute values name (DWARF 5, section 7.5.5, class string).
 use Rattle.std.specs.Prelude.{ℕ, List, ◌+◌, ◌*◌, nat_le, length, if◌then◌else◌, Option, Some, None}
 use Rattle.std.specs.Option.{option_and_then}
 use Rattle.dwarf_encoding.specs.LittleEndian.{u32_le_at}
 use Rattle.dwarf_encoding.specs.Text.{text_in}
 use Rattle.dwarf_encoding.specs.Values.{ValueRecord, InlineString, StringOffset, LineStringOffset, StringIndex}
 
--- the sections in which texts stand, and the place of a unit's part of __debug_str_offs
+-- the sections that store texts, and the offset of a unit's part of __debug_str_offs
 pub record TextSectionsRecord : Type 0 where
   pub debug_str : List ℕ
   pub debug_line_str : List ℕ
   pub debug_str_offs : List ℕ
   pub str_offsets_base : ℕ
 
--- the number of four bytes with an index in __debug_str_offs
+-- the four-byte number at an index of a unit's part of __debug_str_offs
 abbrev pub indexed_offset : List ℕ → ℕ → ℕ → Option ℕ
 indexed_offset debug_str_offs base index =
     if nat_le (base + 4 * index + 4) (length debug_str_offs)
     then Some (u32_le_at debug_str_offs (base + 4 * index))
     else None
 
--- the text that a value is
+-- the text that a value names
 abbrev pub text_of : TextSectionsRecord → ValueRecord → Option (List ℕ)
 text_of sections (InlineString text) = Some text
 text_of sections (StringOffset offset) = text_in sections.debug_str offset

@@ -1,8 +1,8 @@
--- Sections of texts of the code, as the definitions have them.
+-- Sections of texts in the code, as the definitions have them.
 use Rattle.dwarf_encoding.specs.TextSections.{TextSectionsRecord}
 use Rattle.dwarf_encoding.specs.declared.text_sections.TextSections.{TextSections}
 
--- the sections, without where they lie
+-- the sections, without their addresses in memory
 abbrev pub text_sections_view : TextSections → TextSectionsRecord
 text_sections_view s =
     record {

@@ -1,4 +1,4 @@
--- The table of the units of a section: the words of inner functions. No contract of a public one has them.
+-- The table of the units of a section: definitions of inner functions. No contract of a public function uses them.
 use Rattle.std.specs.Prelude.{ℕ, List, ◌≡◌}
 use Rattle.std.specs.Option.{option_map}
 use Rattle.std.specs.Ordering.{nat_cmp}

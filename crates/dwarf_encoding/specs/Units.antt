@@ -10,9 +10,9 @@ use Rattle.dwarf_encoding.specs.Sequences.{placed, item_at}
 abbrev pub is_64_bit : List ℕ → Bool
 is_64_bit unit = u32_le_at unit 0 == 0xffffffff
 
--- the initial length that begins the bytes: how many bytes it has, and how many bytes of the unit follow it; in the
--- 64-bit format eight bytes of length follow 0xffffffff, and the numbers from 0xfffffff0 to 0xfffffffe are reserved
--- (section 7.4)
+-- the size of the initial length that begins the bytes, and the number of bytes of the unit after it; in the 64-bit
+-- format eight bytes of length follow 0xffffffff, and the numbers from 0xfffffff0 to 0xfffffffe are reserved (section
+-- 7.4)
 unfoldable pub initial_length : List ℕ → Option (ℕ × ℕ)
 initial_length bytes =
     if nat_lt (length bytes) 4 then None
@@ -24,17 +24,17 @@ initial_length bytes =
 unfoldable pub unit_at : List ℕ → Option (List ℕ × List ℕ)
 unit_at bytes = option_and_then (λ l. split_at (l.0 + l.1) bytes) (initial_length bytes)
 
--- the unit at an offset of a section, if one of the units that stand there one after another begins at it
+-- the unit at an offset of a section, if one of the section's consecutive units begins there
 abbrev pub unit_of : List ℕ → ℕ → Option (List ℕ)
 unit_of section offset = item_at offset (placed unit_at section)
 
--- the last unit that begins at an offset or before it
+-- the last unit that begins at or before an offset
 pub record BeginsBefore (section : List ℕ) (offset place : ℕ) (unit : List ℕ) : Type 0 where
   pub stands : unit_of section place ≡ Some unit
   pub before : place ≤ offset
   pub last : (other : ℕ) → place < other → other ≤ offset → unit_of section other ≡ None
 
--- the unit that has the byte at an offset, with its own offset, or none
+-- the unit that contains the byte at an offset, with its own offset, or none
 abbrev pub IsUnitWith : List ℕ → ℕ → Option (ℕ × List ℕ) → Type 0
 IsUnitWith section offset found =
     MatchOption found

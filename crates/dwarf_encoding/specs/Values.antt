@@ -1,7 +1,7 @@
 -- The values of attributes (DWARF 5, section 7.5.5).
 use Rattle.std.specs.Prelude.{ℕ, List}
 
--- a value, as its form says it
+-- a value, as its form encodes it
 pub data ValueRecord : Type 0 where
   Address : ℕ → ValueRecord
   AddressIndex : ℕ → ValueRecord

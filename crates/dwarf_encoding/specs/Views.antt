@@ -1,4 +1,4 @@
--- Values of the code, as the definitions have them.
+-- Values in the code, as the definitions have them.
 use Rattle.dwarf_encoding.specs.Values.{ValueRecord, Address as Address_, AddressIndex as AddressIndex_}
 use Rattle.dwarf_encoding.specs.Values.{Constant as Constant_}
 use Rattle.dwarf_encoding.specs.Values.{InlineString as InlineString_, StringOffset as StringOffset_}
@@ -14,7 +14,7 @@ use Rattle.dwarf_encoding.specs.declared.value.Value.TheVariants.{UnitReference}
 use Rattle.dwarf_encoding.specs.declared.value.Value.TheVariants.{SectionReference, SectionOffset, RangeListIndex}
 use Rattle.dwarf_encoding.specs.declared.value.Value.TheVariants.{Other}
 
--- a value, without where its text lies
+-- a value, without the address of its text in memory
 abbrev pub value_view : Value → ValueRecord
 value_view (Address x) = Address_ x
 value_view (AddressIndex x) = AddressIndex_ x

@@ -1,4 +1,4 @@
-//! How the values of attributes are written (DWARF 5, section 7.5.6).
+//! The encodings of attribute values (DWARF 5, section 7.5.6).
 
 ghost use Rattle.std.specs.Prelude.{◌≡◌, ◌≤◌, length};
 ghost use Rattle.std.specs.Option.{option_map};
@@ -12,7 +12,7 @@ use crate::little_endian::{u16_le_at, u32_le_at, u64_le_at};
 use crate::text::read_text;
 use crate::value::Value;
 
-/// What a value that is written as a number stands for, as the [`Value`] of the same name.
+/// The meaning of a value that is encoded as a number; each class names the [`Value`] that the number becomes.
 #[derive(Clone, Copy)]
 pub enum Class {
     Address,
@@ -28,7 +28,7 @@ pub enum Class {
     Other,
 }
 
-/// The value of a class that is written as a number.
+/// The value of this class with this number.
 fn class_value<'a>(class: Class, number: u64) -> Value<'a>
     ensures { value_view result ≡ class_value class number }
 {
@@ -74,7 +74,7 @@ pub fn fixed_size(version: u16, form: u64) -> Option<usize>
     }
 }
 
-/// The class of the values that a form writes as numbers.
+/// The class of the values that a form encodes as numbers.
 fn class_of(form: u64) -> Class
     ensures { result ≡ class_of form }
 {
@@ -101,7 +101,7 @@ fn class_of(form: u64) -> Class
     }
 }
 
-/// The little-endian number in so many first bytes: 1, 2, 3, 4 or 8; 0 for other sizes.
+/// The little-endian number in the first `size` bytes, where `size` is 1, 2, 3, 4 or 8; 0 for other sizes.
 fn number_of_size(bytes: &[u8], size: usize) -> u64
     requires { size ≤ length bytes.now }
     ensures { result ≡ number_of_size size bytes.now }
@@ -116,7 +116,7 @@ fn number_of_size(bytes: &[u8], size: usize) -> u64
     }
 }
 
-/// So many first bytes, and the bytes after them; `None` if there are fewer.
+/// The first `size` bytes, and the bytes after them; `None` if there are fewer.
 fn split_at(bytes: &[u8], size: u64) -> Option<(&[u8], &[u8])>
     ensures { option_map (λ x. (x.0.now, x.1.now)) result ≡ split_at size bytes.now }
 {
@@ -126,7 +126,7 @@ fn split_at(bytes: &[u8], size: u64) -> Option<(&[u8], &[u8])>
     Some(bytes.split_at(size as usize))
 }
 
-/// The bytes after a block, whose length is a number of so many bytes.
+/// The bytes after a block that begins with its length, a number of `size` bytes; `None` if the block passes the end.
 #[tactic(auto, unfolding(crate::specs::Forms::after_block))]
 fn after_block(bytes: &[u8], size: usize) -> Option<&[u8]>
     ensures { option_map (λ x. x.now) result ≡ after_block size bytes.now }
@@ -138,7 +138,8 @@ fn after_block(bytes: &[u8], size: usize) -> Option<&[u8]>
     Some(rest)
 }
 
-/// The value of a form whose values differ in size, and the bytes after it.
+/// The value of a form whose values differ in size, and the bytes after it; `None` if the form has no such values or
+/// the value passes the end.
 #[tactic(auto, unfolding(crate::specs::Forms::variable_value_at))]
 fn variable_value(form: u64, bytes: &[u8]) -> Option<(Value<'_>, &[u8])>
     ensures { option_map (λ x. (value_view x.0, x.1.now)) result ≡ variable_value_at form bytes.now }
@@ -174,8 +175,8 @@ fn variable_value(form: u64, bytes: &[u8]) -> Option<(Value<'_>, &[u8])>
 }
 
 /// The value of a form that begins the bytes, and the bytes after it; `None` if the form is unknown, is
-/// DW_FORM_indirect, or its value passes the end. `version` is that of the unit; `implicit` is the number that the
-/// declaration of the attribute has if its form is DW_FORM_implicit_const.
+/// DW_FORM_indirect, or its value passes the end. `version` is the version of the unit; `implicit` is the number in the
+/// attribute's declaration if the form is DW_FORM_implicit_const.
 #[tactic(auto, unfolding(crate::specs::Forms::value_at))]
 pub fn read_value(
     version: u16,
@@ -200,7 +201,7 @@ pub fn read_value(
     ))
 }
 
-/// The bytes after the value of a form that begins the bytes: as [`read_value`], without the value.
+/// The bytes after the value that begins the bytes: as [`read_value`], without the value.
 #[tactic(auto, unfolding(crate::specs::Forms::value_at))]
 pub fn skip_value(version: u16, form: u64, bytes: &[u8]) -> Option<&[u8]>
     ensures { option_map (λ rest. rest.now) result ≡ option_map (λ x. x.1) (value_at version form 0 bytes.now) }

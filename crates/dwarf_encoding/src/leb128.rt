@@ -5,7 +5,7 @@ ghost use Rattle.std.specs.Option.{option_map};
 ghost use Rattle.dwarf_encoding.specs.Leb128.{unsigned_leb128_at, signed_leb128_at};
 ghost use Rattle.dwarf_encoding.specs.Inner.{onto_high_bits};
 
-/// The index of the last byte of the number that begins the bytes: it is the first below 128.
+/// The index of the last byte of the number that begins the bytes, which is the first byte below 128.
 fn last_index(bytes: &[u8]) -> Option<usize>
     ensures within { IfSome result (λ last. last < length bytes.now) }
     ensures before { IfSome result (λ last. (k : ℕ) → k < last → 128 ≤ slice_index bytes.now k) }
@@ -20,7 +20,7 @@ fn last_index(bytes: &[u8]) -> Option<usize>
     None
 }
 
-/// The number whose low bits are seven of each of these bytes, and whose high bits are those of `high`.
+/// The number whose low bits are the low seven bits of each of these bytes, and whose high bits are those of `high`.
 fn onto_high_bits(bytes: &[u8], high: u64) -> u64
     ensures { result ≡ onto_high_bits bytes.now high }
 {
@@ -42,8 +42,8 @@ fn long_unsigned_leb128(bytes: &[u8]) -> Option<(u64, &[u8])>
     Some((onto_high_bits(number, 0), rest))
 }
 
-/// The unsigned number that begins the bytes, and the bytes after it; `None` if no byte below 128 comes. Of a number
-/// with more than 64 bits the low 64 count.
+/// The unsigned number that begins the bytes, and the bytes after it; `None` if no byte is below 128. If the number has
+/// more than 64 bits, its low 64 bits count.
 #[tactic(auto, unfolding(crate::specs::Leb128::leb128_at))]
 pub fn unsigned_leb128(bytes: &[u8]) -> Option<(u64, &[u8])>
     ensures { option_map (λ x. (x.0, x.1.now)) result ≡ unsigned_leb128_at bytes.now }
@@ -55,7 +55,7 @@ pub fn unsigned_leb128(bytes: &[u8]) -> Option<(u64, &[u8])>
 }
 
 /// The signed number that begins the bytes, as its two's complement of 64 bits, and the bytes after it; `None` if no
-/// byte below 128 comes. Of a number with more than 64 bits the low 64 count.
+/// byte is below 128. If the number has more than 64 bits, its low 64 bits count.
 pub fn signed_leb128(bytes: &[u8]) -> Option<(u64, &[u8])>
     ensures { option_map (λ x. (x.0, x.1.now)) result ≡ signed_leb128_at bytes.now }
 {

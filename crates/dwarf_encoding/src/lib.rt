@@ -1,10 +1,10 @@
-//! How DWARF writes numbers, texts and the values of attributes (DWARF 5, sections 7.5.5, 7.5.6 and 7.6), in the
-//! 32-bit format, with addresses of eight bytes. Each function reads the value that begins some bytes, and returns it
-//! with the bytes after it. No call takes memory.
+//! The encodings of numbers, texts and attribute values in DWARF (DWARF 5, sections 7.5.5, 7.5.6 and 7.6), in the
+//! 32-bit format, with addresses of eight bytes. Each function reads the value that begins the bytes, and returns it
+//! with the bytes after it. No call allocates memory, but for the table of `Units::read`.
 //!
-//! The modules in reading order: `little_endian`, numbers of a fixed size; `leb128`, numbers of any size; `text`,
-//! texts that end with a NUL; `value`, the value of an attribute; `dw_form`, the constants; `form`, how a
-//! value is written; `text_sections`, the text that a value is; `units`, the units of a section.
+//! The modules in reading order: `little_endian`, numbers of a fixed size; `leb128`, numbers of any size; `text`, texts
+//! that end with a NUL; `value`, the value of an attribute; `dw_form`, the constants; `form`, the encoding of a value;
+//! `text_sections`, the text that a value names; `units`, the units of a section.
 #![tactic(auto)]
 
 pub mod dw_form;

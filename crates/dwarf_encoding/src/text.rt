@@ -1,4 +1,4 @@
-//! Texts that end with a NUL (DW_FORM_string; the sections of texts).
+//! Texts that end with a NUL (DW_FORM_string; sections of texts).
 
 ghost use Rattle.std.specs.Prelude.{◌≡◌};
 ghost use Rattle.std.specs.List.{before_first};
@@ -18,7 +18,7 @@ fn before_nul(bytes: &[u8]) -> &[u8]
     }
 }
 
-/// The text that begins the bytes, without the NUL that ends it, and the bytes after that; `None` if there is no NUL.
+/// The text that begins the bytes, without its final NUL, and the bytes after the NUL; `None` if there is no NUL.
 pub fn read_text(bytes: &[u8]) -> Option<(&[u8], &[u8])>
     ensures { option_map (λ x. (x.0.now, x.1.now)) result ≡ text_at bytes.now }
 {
@@ -26,8 +26,8 @@ pub fn read_text(bytes: &[u8]) -> Option<(&[u8], &[u8])>
     Some((bytes.split_at(end).0, bytes.split_at(end + 1).1))
 }
 
-/// The text from an offset of a section of texts, as `__debug_str` is; it ends before its NUL or with the section.
-/// `None` if the offset is not below the section's size.
+/// The text at an offset of a section of texts, such as `__debug_str`; it ends before its NUL or at the end of the
+/// section. `None` if the offset is not below the section's size.
 pub(crate) fn text_in(section: &[u8], offset: u64) -> Option<&[u8]>
     ensures { option_map (λ x. x.now) result ≡ text_in section.now offset }
 {

@@ -1,4 +1,4 @@
-//! The texts that values are (DWARF 5, section 7.5.5, class string).
+//! The texts that attribute values name (DWARF 5, section 7.5.5, class string).
 
 ghost use Rattle.std.specs.Prelude.{◌≡◌};
 ghost use Rattle.std.specs.Option.{option_map};
@@ -10,7 +10,7 @@ use crate::little_endian::u32_le_at;
 use crate::text::text_in;
 use crate::value::Value;
 
-/// The sections in which texts stand, and where a unit has its part of `__debug_str_offs`.
+/// The sections that store texts, and the offset of the unit's part of `__debug_str_offs`.
 #[derive(Clone, Copy)]
 pub struct TextSections<'a> {
     pub debug_str: &'a [u8],
@@ -20,7 +20,8 @@ pub struct TextSections<'a> {
     pub str_offsets_base: u64,
 }
 
-/// The number of four bytes with an index in `__debug_str_offs`; `None` if it passes the end.
+/// The four-byte number at an index of the unit's part of `__debug_str_offs`, which begins at `base`; `None` if it
+/// passes the end.
 fn indexed_offset(debug_str_offs: &[u8], base: u64, index: u64) -> Option<u64>
     ensures { result ≡ indexed_offset debug_str_offs.now base index }
 {
@@ -33,8 +34,8 @@ fn indexed_offset(debug_str_offs: &[u8], base: u64, index: u64) -> Option<u64>
 }
 
 impl<'a> TextSections<'a> {
-    /// The text that a value is, without its NUL; `None` for a value of another class, and if its place passes the end
-    /// of its section.
+    /// The text that a value names, without its NUL; `None` if the value has another class, or if its text or its index
+    /// is outside its section.
     pub fn text_of(&self, value: &Value<'a>) -> Option<&'a [u8]>
         ensures { option_map (λ x. x.now) result ≡ text_of (text_sections_view self.now) (value_view value.now) }
     {

@@ -1,4 +1,4 @@
-//! Units that stand in a section one after another (DWARF 5, sections 7.2.2 and 7.4).
+//! The units of a section, one after another (DWARF 5, sections 7.2.2 and 7.4).
 
 ghost use Rattle.std.specs.Prelude.{◌≡◌, ◌<◌, ◌≤◌, ◌==◌, ℕ, length, IfOk, IfSome, IfNone, OnOk, Some, None};
 ghost use Rattle.std.specs.Prelude.{if◌then◌else◌};
@@ -12,7 +12,7 @@ use memory::{Heap, NoMemory};
 use std::collections::BTreeMap;
 use std::marker::Model;
 
-/// Whether a unit is in the 64-bit format, of which no unit is read here.
+/// Whether a unit is in the 64-bit format. No such unit is read here.
 pub fn is_64_bit(unit: &[u8]) -> bool
     requires { 4 ≤ length unit.now }
     ensures { result ≡ is_64_bit unit.now }
@@ -20,8 +20,8 @@ pub fn is_64_bit(unit: &[u8]) -> bool
     u32_le_at(unit, 0) == 0xffff_ffff
 }
 
-/// How many bytes the initial length has that begins the bytes, and how many bytes of the unit follow it; `None` if
-/// fewer bytes are left or its number is reserved.
+/// The size of the initial length that begins the bytes, and the number of bytes of the unit after it; `None` if there
+/// are too few bytes or the number is reserved.
 #[tactic(auto, unfolding(crate::specs::Units::initial_length))]
 fn initial_length(bytes: &[u8]) -> Option<(usize, u64)>
     ensures value { result ≡ initial_length bytes.now }
@@ -40,8 +40,8 @@ fn initial_length(bytes: &[u8]) -> Option<(usize, u64)>
     Some((12, u64_le_at(bytes, 4)))
 }
 
-/// The unit that begins the bytes, with its initial length, in either format, and the bytes after it; `None` if no
-/// initial length can be read or the unit passes the end.
+/// The unit that begins the bytes, in either format, with its initial length, and the bytes after the unit; `None` if
+/// no initial length can be read or the unit passes the end.
 #[tactic(auto, unfolding(crate::specs::Units::unit_at))]
 pub fn split_unit(bytes: &[u8]) -> Option<(&[u8], &[u8])>
     ensures value { option_map (λ x. (x.0.now, x.1.now)) result ≡ unit_at bytes.now }
@@ -54,7 +54,8 @@ pub fn split_unit(bytes: &[u8]) -> Option<(&[u8], &[u8])>
     Some(bytes.split_at(before + size as usize))
 }
 
-/// The units of a section, which borrow it, up to the first that passes the end. A contract sees the section.
+/// The units of a section, up to the first that passes the end. They borrow the section, and a contract sees the
+/// section.
 #[derive(Drop)]
 pub struct Units<'a> {
     section: &'a [u8],
@@ -72,7 +73,7 @@ impl<'a> Model for Units<'a> {
     ghost invariant = { λ u. AreUnits u.section.now u.by_offset };
 }
 
-/// Puts a unit into the table, unless there is one at its offset.
+/// Adds a unit to the table, unless the table has a unit at its offset.
 fn keep_first<'a>(
     by_offset: &mut BTreeMap<u64, &'a [u8], Heap>,
     offset: u64,
@@ -104,7 +105,7 @@ fn table<'a>(heap: Heap, section: &'a [u8]) -> Result<BTreeMap<u64, &'a [u8], He
     Ok(by_offset)
 }
 
-/// The last unit of the table that begins at an offset or before it, with its own offset.
+/// The last unit of the table that begins at or before an offset, with its own offset.
 fn last_before<'a>(
     by_offset: &BTreeMap<u64, &'a [u8], Heap>,
     offset: u64,
@@ -119,7 +120,7 @@ fn last_before<'a>(
 }
 
 impl<'a> Units<'a> {
-    /// The units of a section. It takes the time of their number, and some words of memory each.
+    /// The units of a section. Time and memory are proportional to their number.
     pub fn read(heap: Heap, section: &'a [u8]) -> Result<Units<'a>, NoMemory>
         ensures { IfOk result (λ units. units ≡ section.now) }
     {
@@ -141,7 +142,7 @@ impl<'a> Units<'a> {
         self.by_offset.get(&offset).copied()
     }
 
-    /// The unit that has the byte at an offset, with its own offset; `None` if none has.
+    /// The unit that contains the byte at an offset, with its own offset; `None` if no unit does.
     pub fn containing(&self, offset: u64) -> Option<(u64, &'a [u8])>
         ensures { IsUnitWith self.now offset (option_map (λ x. (x.0, x.1.now)) result) }
     {

@@ -1,13 +1,13 @@
-/// The value of an attribute, as far as its form says it (DWARF 5, section 7.5.5).
+/// The value of an attribute, as its form encodes it (DWARF 5, section 7.5.5).
 #[derive(Clone, Copy)]
 pub enum Value<'a> {
     /// An address.
     Address(u64),
     /// The index of an address in `__debug_addr`.
     AddressIndex(u64),
-    /// A constant. A negative one is its two's complement of 64 bits.
+    /// A constant. A negative constant is its two's complement of 64 bits.
     Constant(u64),
-    /// A text that stands in place, without its NUL.
+    /// A text that is stored in the entry itself, without its NUL.
     InlineString(&'a [u8]),
     /// The offset of a text in `__debug_str`.
     StringOffset(u64),
@@ -23,7 +23,7 @@ pub enum Value<'a> {
     SectionOffset(u64),
     /// The index of a list in `__debug_rnglists`.
     RangeListIndex(u64),
-    /// A value that is not used here: a flag, a block, an expression, the index of a location list, a signature, or
-    /// what stands in a supplementary file.
+    /// A value that is not used here: a flag, a block, an expression, the index of a location list, a signature, or a
+    /// reference to a supplementary file.
     Other,
 }

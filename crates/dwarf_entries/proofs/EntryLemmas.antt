@@ -13,7 +13,8 @@ use Rattle.dwarf_encoding.proofs.SequenceLemmas.{none_or_some, nothing, mapped a
 use Rattle.dwarf_encoding.proofs.ShorterLemmas.{leb128_shorter, value_shorter}
 use Rattle.dwarf_entries.specs.Attributes.{AttributesRecord, with_attribute}
 use Rattle.dwarf_entries.specs.Abbreviations.{DeclarationRecord, declaration_of}
-use Rattle.dwarf_entries.specs.Entries.{EntryRecord, PlacedRecord, attributes_from, entry_at, depth_after, entries_within, entries_from, entry_of, left_after}
+use Rattle.dwarf_entries.specs.Entries.{EntryRecord, PlacedRecord, attributes_from, entry_at, depth_after}
+use Rattle.dwarf_entries.specs.Entries.{entries_within, entries_from, entry_within, left_after}
 use Rattle.dwarf_entries.specs.declared.unit_header.UnitHeader.{UnitHeader}
 
 -- a value more of an entry
@@ -190,13 +191,13 @@ pub one_found : (abbreviations : List ℕ) (header : UnitHeader) (unit : List �
     → ◌≡◌ {A = Option (Option EntryRecord × List ℕ)} (Some (found, rest))
     (entry_at abbreviations header (take room (drop offset unit)))
     → option_map (λ e. (e, left_after room (take room (drop offset unit)) rest)) found
-    ≡ entry_of room abbreviations header unit offset
+    ≡ entry_within room abbreviations header unit offset
 one_found abbreviations header unit offset found rest room h read =
     rw (le-leb header.entries_offset offset h)
     (ap (option_and_then (λ (x : Option EntryRecord × List ℕ). option_map (λ e. (e, left_after room (take room (drop offset unit)) x.1)) x.0)) read)
 
 pub one_missing : (abbreviations : List ℕ) (header : UnitHeader) (unit : List ℕ) (offset room : ℕ) → header.entries_offset ≤ offset
-    → entry_at abbreviations header (take room (drop offset unit)) ≡ None → entry_of room abbreviations header unit offset ≡ None
+    → entry_at abbreviations header (take room (drop offset unit)) ≡ None → entry_within room abbreviations header unit offset ≡ None
 one_missing abbreviations header unit offset room h read =
     rw (le-leb header.entries_offset offset h)
     (ap (option_and_then (λ (x : Option EntryRecord × List ℕ). option_map (λ e. (e, left_after room (take room (drop offset unit)) x.1)) x.0)) read)

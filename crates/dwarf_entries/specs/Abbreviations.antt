@@ -35,8 +35,8 @@ declaration_at bytes =
     else option_map (λ y. (Some (x.0, y.0), y.1)) (declaration_body_at x.1))
     (unsigned_leb128_at bytes)
 
--- at most so many declarations and ends of tables, each declaration under the offset of its table and its code, from
--- some bytes at the end of a section of this size on, in the table of this offset
+-- the declarations of the bytes, each with the offset of its table and its code; at most `count` declarations and ends
+-- of tables. The bytes are the last ones of a section of `size` bytes, and begin in the table at the offset `table`
 unfoldable pub declarations_within : ℕ → ℕ → ℕ → List ℕ → List ((ℕ × ℕ) × DeclarationRecord)
 declarations_within zero size table bytes = []
 declarations_within (suc count) size table bytes =
@@ -46,16 +46,16 @@ declarations_within (suc count) size table bytes =
     x.0 (declarations_within count size (size - length x.1) x.1))
     (declaration_at bytes) []
 
--- the declarations from there on, up to the first that cannot be read
+-- the declarations of the bytes, up to the first that cannot be read
 unfoldable pub declarations_from : ℕ → ℕ → List ℕ → List ((ℕ × ℕ) × DeclarationRecord)
 declarations_from size table bytes = declarations_within (length bytes) size table bytes
 
--- the first one under an offset and a code
+-- the first declaration with an offset of a table and a code
 abbrev pub declared : ℕ → ℕ → List ((ℕ × ℕ) × DeclarationRecord) → Option DeclarationRecord
 declared table code [] = None
 declared table code (d ∷ ds) =
     if (table == d.0.0) && (code == d.0.1) then Some d.1 else declared table code ds
 
--- the declaration of a code in the table at an offset of the section
+-- the declaration with a code in the table at an offset of the section
 abbrev pub declaration_of : List ℕ → ℕ → ℕ → Option DeclarationRecord
 declaration_of section table code = declared table code (declarations_from (length section) 0 section)

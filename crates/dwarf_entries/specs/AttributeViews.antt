@@ -1,4 +1,4 @@
--- Attributes of the code, as the definitions have them.
+-- Attributes in the code, as the definitions have them.
 use Rattle.std.specs.Prelude.{ℕ, List, Option, None, map, slice_index_or}
 use Rattle.std.specs.Option.{option_map}
 use Rattle.dwarf_encoding.specs.Values.{ValueRecord}
@@ -12,7 +12,7 @@ use Rattle.dwarf_entries.specs.declared.attributes.Attribute.TheVariants.{StrOff
 use Rattle.dwarf_entries.specs.declared.attributes.Attribute.TheVariants.{MipsLinkageName}
 use Rattle.dwarf_entries.specs.declared.attributes.Attributes.{Attributes}
 
--- where the value of an attribute stands
+-- the index of the value of an attribute
 abbrev pub slot_of : Attribute → ℕ
 slot_of Name = 0
 slot_of StmtList = 1
@@ -31,7 +31,7 @@ slot_of AddrBase = 13
 slot_of RnglistsBase = 14
 slot_of MipsLinkageName = 15
 
--- the attributes whose values stand there
+-- the attributes whose values are in this list, each at its index
 unfoldable pub of_slots : List (Option ValueRecord) → AttributesRecord
 of_slots values =
     record {
@@ -53,6 +53,6 @@ of_slots values =
       mips_linkage_name = slice_index_or values 15 None;
     }
 
--- the attributes, without where their texts lie
+-- the attributes, without the addresses of their texts in memory
 abbrev pub attributes_view : Attributes → AttributesRecord
 attributes_view a = of_slots (map (option_map value_view) a.values)

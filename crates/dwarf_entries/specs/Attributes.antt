@@ -1,4 +1,4 @@
--- The attributes that are asked here (DWARF 5, sections 2.2 and 7.5.4, table 7.5).
+-- The attributes that are read here (DWARF 5, sections 2.2 and 7.5.4, table 7.5).
 use Rattle.std.specs.Prelude.{ℕ, ◌==◌, if◌then◌else◌, Option, Some, None}
 use Rattle.std.specs.Option.{option_map_or, option_or}
 use Rattle.dwarf_encoding.specs.Values.{ValueRecord}
@@ -9,7 +9,7 @@ use Rattle.dwarf_entries.specs.declared.attributes.Attribute.TheVariants.{CallCo
 use Rattle.dwarf_entries.specs.declared.attributes.Attribute.TheVariants.{StrOffsetsBase, AddrBase, RnglistsBase}
 use Rattle.dwarf_entries.specs.declared.attributes.Attribute.TheVariants.{MipsLinkageName}
 
--- their numbers; the last is of LLVM's vendor range, from before DW_AT_linkage_name
+-- their numbers; the last is in LLVM's vendor range, and older than DW_AT_linkage_name
 abbrev pub DW_AT_name : ℕ
 DW_AT_name = 0x03
 
@@ -58,7 +58,7 @@ DW_AT_rnglists_base = 0x74
 abbrev pub DW_AT_MIPS_linkage_name : ℕ
 DW_AT_MIPS_linkage_name = 0x2007
 
--- the value of each attribute that an entry has
+-- the value of each attribute of an entry
 pub record AttributesRecord : Type 0 where
   pub name : Option ValueRecord
   pub stmt_list : Option ValueRecord
@@ -77,7 +77,7 @@ pub record AttributesRecord : Type 0 where
   pub rnglists_base : Option ValueRecord
   pub mips_linkage_name : Option ValueRecord
 
--- none of them
+-- no values
 abbrev pub no_attributes : AttributesRecord
 no_attributes =
     record {
@@ -118,11 +118,11 @@ value_of a AddrBase = a.addr_base
 value_of a RnglistsBase = a.rnglists_base
 value_of a MipsLinkageName = a.mips_linkage_name
 
--- of two values of one attribute the first counts
+-- the value of an attribute; a second value is ignored
 abbrev pub first : Option ValueRecord → ValueRecord → Option ValueRecord
 first earlier value = option_or earlier (Some value)
 
--- the attributes with a value of one more
+-- the attributes with one more value
 abbrev pub with_value : AttributesRecord → Attribute → ValueRecord → AttributesRecord
 with_value a Name value = record a { name = first a.name value }
 with_value a StmtList value = record a { stmt_list = first a.stmt_list value }
@@ -141,7 +141,7 @@ with_value a AddrBase value = record a { addr_base = first a.addr_base value }
 with_value a RnglistsBase value = record a { rnglists_base = first a.rnglists_base value }
 with_value a MipsLinkageName value = record a { mips_linkage_name = first a.mips_linkage_name value }
 
--- the attribute of a number, if it is asked
+-- the attribute with a number, if it is read here
 unfoldable pub attribute_of : ℕ → Option Attribute
 attribute_of number =
     if number == DW_AT_name then Some Name
@@ -162,6 +162,6 @@ attribute_of number =
     else if number == DW_AT_MIPS_linkage_name then Some MipsLinkageName
     else None
 
--- the attributes with a value of a number more
+-- the attributes with one more value, whose attribute has this number
 abbrev pub with_attribute : AttributesRecord → ℕ → ValueRecord → AttributesRecord
 with_attribute a number value = option_map_or (λ attribute. with_value a attribute value) (attribute_of number) a

@@ -15,7 +15,7 @@ pub record EntryRecord : Type 0 where
   pub has_children : Bool
   pub attributes : AttributesRecord
 
--- the values of the pairs of attributes and forms that are left, with those before them
+-- the values of the pairs of attributes and forms that are left, added to the values before them
 unfoldable pub attributes_from : ℕ → AttributesRecord → List (ℕ × ℕ) → List ℕ → Option (AttributesRecord × List ℕ)
 attributes_from version a [] bytes = Some (a, bytes)
 attributes_from version a (pair ∷ pairs) bytes =
@@ -23,13 +23,13 @@ attributes_from version a (pair ∷ pairs) bytes =
     (λ x. attributes_from version (with_attribute a pair.0 x.0) pairs x.1)
     (value_at version pair.1 0 bytes)
 
--- the attributes of an entry of a declaration's shape, whose values begin the bytes; none if they cannot be read
+-- the attributes of an entry with a declaration's shape, whose values begin the bytes; no values if they cannot be read
 abbrev pub attributes_of : ℕ → ShapeRecord → List ℕ → AttributesRecord
 attributes_of version shape bytes =
     option_map_or (λ x. x.0) (attributes_from version shape.constants shape.pairs bytes) no_attributes
 
--- the entry that begins the bytes, whose abbreviations stand in a section: its code, and the values that its
--- declaration asks for; the code 0 is a null entry, which ends the entries of a parent
+-- the entry that begins the bytes, with the abbreviations of this section: its code, and the values of its declaration;
+-- the code 0 is a null entry, which ends the children of an entry
 unfoldable pub entry_at : List ℕ → UnitHeader → List ℕ → Option (Option EntryRecord × List ℕ)
 entry_at abbreviations header bytes =
     option_and_then
@@ -42,13 +42,13 @@ entry_at abbreviations header bytes =
     (declaration_of abbreviations header.debug_abbrev_offset x.0))
     (unsigned_leb128_at bytes)
 
--- an entry in its unit: its offset there, and in how many entries it stands
+-- an entry in its unit: its offset there, and the number of entries around it
 pub record PlacedRecord : Type 0 where
   pub offset : ℕ
   pub depth : ℕ
   pub entry : EntryRecord
 
--- the depth after an entry or a null entry of a depth; the list ends where the first entry is closed
+-- the depth after an entry or a null entry at a depth; None once the first entry is closed
 abbrev pub depth_after : ℕ → Option EntryRecord → Option ℕ
 depth_after depth None = if nat_le depth 1 then None else Some (depth - 1)
 depth_after depth (Some entry) =
@@ -56,7 +56,8 @@ depth_after depth (Some entry) =
     else if depth == 0 then None
     else Some depth
 
--- at most so many entries from some bytes at the end of a unit of this size on, the first at this depth
+-- the entries of the last bytes of a unit of `size` bytes, the first at this depth; at most `count` of them, null
+-- entries included
 unfoldable pub entries_within : ℕ → List ℕ → UnitHeader → ℕ → ℕ → List ℕ → List PlacedRecord
 entries_within zero abbreviations header size depth bytes = []
 entries_within (suc count) abbreviations header size depth bytes =
@@ -65,7 +66,7 @@ entries_within (suc count) abbreviations header size depth bytes =
     ++ option_map_or (λ d. entries_within count abbreviations header size d x.1) (depth_after depth x.0) [])
     (entry_at abbreviations header bytes) []
 
--- the entries from there on, up to the first that cannot be read
+-- the entries of the last bytes of a unit of `size` bytes, up to the first that cannot be read
 unfoldable pub entries_from : List ℕ → UnitHeader → ℕ → ℕ → List ℕ → List PlacedRecord
 entries_from abbreviations header size depth bytes =
     entries_within (length bytes) abbreviations header size depth bytes
@@ -75,13 +76,13 @@ abbrev pub entries_of : List ℕ → UnitHeader → List ℕ → List PlacedReco
 entries_of abbreviations header unit =
     entries_from abbreviations header (length unit) 0 (drop header.entries_offset unit)
 
--- how many of so many bytes are left after an entry that begins these bytes, and after which the rest comes
+-- the number of bytes left of `room` after the entry that begins these bytes; `rest` are the bytes after the entry
 abbrev pub left_after : ℕ → List ℕ → List ℕ → ℕ
 left_after room bytes rest = room - (length bytes - length rest)
 
--- the one entry at an offset of its unit, of which so many bytes are read at most, and how many of these are left
-abbrev pub entry_of : ℕ → List ℕ → UnitHeader → List ℕ → ℕ → Option (EntryRecord × ℕ)
-entry_of room abbreviations header unit offset =
+-- the entry at an offset of its unit, if it can be read within `room` bytes, and how many of those bytes are left
+abbrev pub entry_within : ℕ → List ℕ → UnitHeader → List ℕ → ℕ → Option (EntryRecord × ℕ)
+entry_within room abbreviations header unit offset =
     if nat_le header.entries_offset offset
     then
     option_and_then

@@ -9,7 +9,7 @@ use Rattle.dwarf_encoding.specs.Values.{Constant}
 use Rattle.dwarf_entries.specs.Attributes.{AttributesRecord, no_attributes, with_attribute}
 use Rattle.dwarf_entries.specs.declared.specification.Specification.{Specification}
 
--- a specification: an attribute, a form, and a number after DW_FORM_implicit_const; two zeros end them
+-- a specification: an attribute, a form, and a number after DW_FORM_implicit_const; two zeros end the specifications
 unfoldable pub specification_at : List ℕ → Option (Option Specification × List ℕ)
 specification_at bytes =
     option_and_then
@@ -21,8 +21,8 @@ specification_at bytes =
     (unsigned_leb128_at x.1))
     (unsigned_leb128_at bytes)
 
--- what an entry needs of the specifications of its declaration: the values that stand there, and the attribute and the
--- form of each value that stands in the entry, in order
+-- the parts of a declaration's specifications that an entry needs: the values that are stored in the declaration, and
+-- the attribute and the form of each value that is stored in the entry, in order
 pub record ShapeRecord : Type 0 where
   pub constants : AttributesRecord
   pub pairs : List (ℕ × ℕ)
@@ -30,8 +30,8 @@ pub record ShapeRecord : Type 0 where
 abbrev pub empty_shape : ShapeRecord
 empty_shape = record { constants = no_attributes; pairs = [] }
 
--- a specification more: the value of DW_FORM_implicit_const stands in the declaration, and so counts before those of
--- the entry; a value of DW_FORM_flag_present has no byte and says nothing here
+-- one more specification: the value of DW_FORM_implicit_const is stored in the declaration, and so counts before those
+-- of the entry; a value of DW_FORM_flag_present has no bytes and is ignored here
 abbrev pub with_specification : ShapeRecord → Specification → ShapeRecord
 with_specification shape s =
     if s.form == DW_FORM_implicit_const
@@ -39,21 +39,21 @@ with_specification shape s =
     else if s.form == DW_FORM_flag_present then shape
     else record shape { pairs = shape.pairs ++ (s.attribute, s.form) ∷ [] }
 
--- specifications more, in order
+-- more specifications, in order
 unfoldable pub shape_from : ShapeRecord → List Specification → ShapeRecord
 shape_from shape [] = shape
 shape_from shape (s ∷ ss) = shape_from (with_specification shape s) ss
 
--- the shape after specifications, of those up to the two zeros
+-- a shape with the specifications before the two zeros
 abbrev pub shaped : ShapeRecord → Option (List Specification × List ℕ) → Option (ShapeRecord × List ℕ)
 shaped shape None = None
 shaped shape (Some y) = Some (shape_from shape y.0, y.1)
 
--- the shape that the specifications make which begin the bytes, and the bytes after these
+-- the shape of the specifications that begin the bytes, and the bytes after their two zeros
 abbrev pub shape_at : List ℕ → Option (ShapeRecord × List ℕ)
 shape_at bytes = shaped empty_shape (ended specification_at bytes)
 
--- the size of the values of pairs, where each form has one size in the versions 3 to 5
+-- the size of the values of pairs, if each form has one size in the versions 3 to 5
 unfoldable pub total_size : List (ℕ × ℕ) → Option ℕ
 total_size [] = Some 0
 total_size (pair ∷ pairs) =

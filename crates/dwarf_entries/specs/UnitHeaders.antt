@@ -12,14 +12,14 @@ header_of_version_5 unit =
     then Some (record { version = 5; debug_abbrev_offset = u32_le_at unit 8; entries_offset = 12 })
     else None
 
--- before: debug_abbrev_offset at 6, address_size at 10
+-- versions 2 to 4: debug_abbrev_offset at 6, address_size at 10
 abbrev pub header_to_version_4 : ℕ → List ℕ → Option UnitHeader
 header_to_version_4 version unit =
     if nat_le 11 (length unit) && (slice_index unit 10 == 8) && nat_le 2 version && nat_le version 4
     then Some (record { version = version; debug_abbrev_offset = u32_le_at unit 6; entries_offset = 11 })
     else None
 
--- the header of a unit, with its initial length; version at 4; one in the 64-bit format is not read
+-- the header of a unit, with its initial length; version at 4; a unit in the 64-bit format is not read
 abbrev pub header_of : List ℕ → Option UnitHeader
 header_of unit =
     if nat_lt (length unit) 6 || is_64_bit unit then None

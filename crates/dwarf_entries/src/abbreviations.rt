@@ -12,8 +12,8 @@ use crate::reading::read_declaration;
 use memory::{Heap, NoMemory};
 use std::marker::Model;
 
-/// The declarations of `__debug_abbrev`, up to the first that cannot be read. The section is read once, whatever units
-/// say. A contract sees the section.
+/// The declarations of `__debug_abbrev`, up to the first that cannot be read. The section is read once for all units. A
+/// contract sees the section.
 #[derive(Drop)]
 pub struct Abbreviations<'a> {
     section: &'a [u8],
@@ -68,7 +68,7 @@ pub(crate) struct Table<'t, 'a> {
 }
 
 impl<'t, 'a> Table<'t, 'a> {
-    /// The first declaration of a code.
+    /// The first declaration with a code.
     pub fn declaration(&self, code: u64) -> Option<&'t Declaration<'a>>
         ensures { option_map (λ d. declaration_view d.now) result
             ≡ declaration_of self.now.section.now self.now.offset code }
@@ -92,7 +92,7 @@ impl<'a> Abbreviations<'a> {
         })
     }
 
-    /// The table at an offset; it has no declaration if none begins there.
+    /// The table at an offset; it has no declarations if no table begins there.
     pub(crate) fn table(&self, offset: u64) -> Table<'_, 'a>
         ensures { (result.section.now ≡ self.now) × (result.offset ≡ offset) }
     {

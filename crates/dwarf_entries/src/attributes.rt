@@ -1,11 +1,11 @@
-//! The attributes that are asked here (DWARF 5, sections 2.2 and 7.5.4).
+//! The attributes that are read here (DWARF 5, sections 2.2 and 7.5.4).
 
 ghost use Rattle.std.specs.Prelude.{◌≡◌, ◌<◌, length};
 
 use crate::dw::*;
 use dwarf_encoding::Value;
 
-/// An attribute that is asked. The names are the standard's, without `DW_AT_`.
+/// An attribute that is read here. The names are the standard's, without `DW_AT_`.
 #[derive(Clone, Copy)]
 pub enum Attribute {
     Name,
@@ -30,7 +30,7 @@ impl Attribute {
     ghost use Rattle.dwarf_entries.specs.Attributes.{attribute_of};
     ghost use Rattle.dwarf_entries.specs.AttributeViews.{slot_of};
 
-    /// The attribute of a number, if it is asked.
+    /// The attribute with a number; `None` if it is not read here.
     #[tactic(auto, unfolding(crate::specs::Attributes::attribute_of))]
     fn of(number: u64) -> Option<Attribute>
         ensures { result ≡ attribute_of number }
@@ -56,7 +56,7 @@ impl Attribute {
         }
     }
 
-    /// Where its value stands among those of an entry.
+    /// The index of its value in [`Attributes`].
     fn slot(self) -> usize
         ensures is { result ≡ slot_of self }
         ensures within { result < 16 }
@@ -82,7 +82,7 @@ impl Attribute {
     }
 }
 
-/// The value of each attribute that an entry has.
+/// The value of each attribute of an entry.
 #[derive(Clone, Copy)]
 pub struct Attributes<'a> {
     values: [Option<Value<'a>>; 16],
@@ -95,7 +95,7 @@ impl<'a> Attributes<'a> {
     ghost use Rattle.dwarf_entries.specs.Attributes.{no_attributes, value_of, with_attribute};
     ghost use Rattle.dwarf_entries.specs.AttributeViews.{attributes_view};
 
-    /// None of them.
+    /// No values.
     #[tactic(auto, unfolding(crate::specs::AttributeViews::of_slots))]
     pub(crate) fn none() -> Attributes<'a>
         ensures { attributes_view result ≡ no_attributes }
@@ -103,7 +103,7 @@ impl<'a> Attributes<'a> {
         Attributes { values: [None; 16] }
     }
 
-    /// The value of an attribute, if the entry has it.
+    /// The value of an attribute; `None` if the entry lacks it.
     #[tactic(auto, unfolding(crate::specs::AttributeViews::of_slots))]
     pub fn get(&self, attribute: Attribute) -> Option<Value<'a>>
         ensures { option_map value_view result ≡ value_of (attributes_view self.now) attribute }
@@ -111,7 +111,7 @@ impl<'a> Attributes<'a> {
         self.values[attribute.slot()]
     }
 
-    /// Puts a value; of two values of one attribute the first counts.
+    /// Sets the value of an attribute, unless it has one.
     pub(crate) fn put(&mut self, number: u64, value: Value<'a>)
         ensures { attributes_view self.new
             ≡ with_attribute (attributes_view self.old) number (value_view value.entry) }

@@ -1,4 +1,4 @@
-//! A declaration of an abbreviation (DWARF 5, section 7.5.3).
+//! The declaration of an abbreviation (DWARF 5, section 7.5.3).
 
 ghost use Rattle.std.specs.Prelude.{◌≡◌};
 ghost use Rattle.std.specs.Option.{option_map, option_or};
@@ -13,12 +13,13 @@ pub struct Declaration<'a> {
     pub tag: u64,
     pub has_children: bool,
     pub shape: Shape<'a>,
-    /// The size of the values of an entry in bytes, where each form has one size in the versions 3 to 5.
+    /// The size in bytes of the values of an entry, if each form has one size in the versions 3 to 5.
     pub(crate) size: Option<usize>,
     ghost size_is: { option_or size (total_size shape.pairs.items) ≡ total_size shape.pairs.items },
 }
 
-/// The size of the values of pairs of attributes and forms, where each form has one size in the versions 3 to 5.
+/// The size in bytes of the values of these pairs of attributes and forms, if each form has one size in the versions 3
+/// to 5.
 pub(crate) fn total_size(pairs: &[(u64, u64)]) -> Option<usize>
     ensures { option_or result (total_size pairs.now) ≡ total_size pairs.now }
 {
@@ -35,7 +36,7 @@ pub(crate) fn total_size(pairs: &[(u64, u64)]) -> Option<usize>
     Some(size)
 }
 
-/// The bytes after the values of pairs of attributes and forms.
+/// The bytes after the values of these pairs of attributes and forms; `None` if a value cannot be read.
 fn after_pairs<'a>(version: u16, pairs: &[(u64, u64)], bytes: &'a [u8]) -> Option<&'a [u8]>
     ensures { option_map (λ r. r.now) result ≡ values_after version pairs.now bytes.now }
 {
@@ -50,7 +51,7 @@ fn after_pairs<'a>(version: u16, pairs: &[(u64, u64)], bytes: &'a [u8]) -> Optio
 }
 
 impl<'a> Declaration<'a> {
-    /// The bytes after the values of an entry, whose values begin the bytes.
+    /// The bytes after the values of an entry, which begin the bytes; `None` if a value cannot be read.
     pub fn after_values<'b>(&self, version: u16, bytes: &'b [u8]) -> Option<&'b [u8]>
         ensures { option_map (λ r. r.now) result ≡ values_after version self.now.shape.pairs.items bytes.now }
     {

@@ -1,5 +1,5 @@
-//! The declarations of all tables, by which each is found at once where the codes of a table ascend from 1 on, as
-//! compilers write them.
+//! The declarations of all tables. If the codes of a table ascend from 1 on, as compilers write them, a declaration is
+//! found without a search.
 
 ghost use Rattle.std.specs.Prelude.{[], ◌≡◌, ◌≢◌, ◌==◌, ◌&&◌, ◌++◌, ◌∷◌, ℕ, None, OnOk, Some, length, if◌then◌else◌};
 ghost use Rattle.std.specs.Option.{is_some, option_map, option_or};
@@ -11,26 +11,26 @@ use crate::declaration::Declaration;
 use memory::{Heap, NoMemory};
 use std::collections::BTreeMap;
 
-/// The declarations of the codes 1, 2, 3 and so on of a table, as far as they come in this order.
+/// The declarations of a table with the codes 1, 2, 3 and so on, as far as they have this order.
 #[derive(Drop)]
 pub(crate) struct Rows<'a> {
     pub rows: Vec<Declaration<'a>, Heap>,
 }
 
-/// Rows under the offsets of their tables.
+/// Rows by the offsets of their tables.
 type RowsByTable<'a> = BTreeMap<u64, Rows<'a>, Heap>;
 
-/// Declarations under the offsets of their tables and their codes.
+/// Declarations by the offsets of their tables and their codes.
 pub(crate) type DeclarationsByCode<'a> = BTreeMap<(u64, u64), Declaration<'a>, Heap>;
 
-/// The declarations of all tables: the rows of each, and those that are in no row.
+/// The declarations of all tables: the rows of each, and the declarations that are in no row.
 #[derive(Drop)]
 pub(crate) struct Declarations<'a> {
     pub rows: RowsByTable<'a>,
     pub others: DeclarationsByCode<'a>,
 }
 
-/// The declaration of a code in rows, if there are some.
+/// The declaration with a code in rows; `None` if there is none.
 pub(crate) fn row_in<'t, 'a>(rows: Option<&'t Rows<'a>>, code: u64) -> Option<&'t Declaration<'a>>
     ensures { option_map (λ d. d.now) result ≡ row_in (rows_or_none (option_map (λ r. r.now) rows.entry)) code }
 {
@@ -41,7 +41,7 @@ pub(crate) fn row_in<'t, 'a>(rows: Option<&'t Rows<'a>>, code: u64) -> Option<&'
     Some(&rows.rows[code as usize - 1])
 }
 
-/// Adds a row to those of a table.
+/// Adds a row to the rows of a table.
 fn push_row<'a>(
     heap: Heap,
     by_table: &mut RowsByTable<'a>,
@@ -66,7 +66,7 @@ fn push_row<'a>(
 }
 
 impl<'a> Declarations<'a> {
-    /// None.
+    /// Tables without declarations.
     pub fn none(heap: Heap) -> Declarations<'a>
         ensures { (table code : ℕ) → declaration_in result table code ≡ None }
     {
@@ -76,14 +76,14 @@ impl<'a> Declarations<'a> {
         }
     }
 
-    /// The rows of a table, if it has some.
+    /// The rows of a table; `None` if it has none.
     pub fn rows_of(&self, table: u64) -> Option<&Rows<'a>>
         ensures { option_map (λ r. r.now) result ≡ tree_map.get nat_cmp self.now.rows table }
     {
         self.rows.get(&table)
     }
 
-    /// How many rows a table has.
+    /// The number of rows of a table.
     fn count_of(&self, table: u64) -> usize
         ensures { result ≡ length (rows_or_none (tree_map.get nat_cmp self.now.rows table)) }
     {
@@ -93,14 +93,14 @@ impl<'a> Declarations<'a> {
         }
     }
 
-    /// Whether a table has a declaration of a code.
+    /// Whether a table has a declaration with a code.
     fn has(&self, table: u64, code: u64) -> bool
         ensures { result ≡ is_some (declaration_in self.now table code) }
     {
         row_in(self.rows_of(table), code).is_some() || self.others.contains_key(&(table, code))
     }
 
-    /// Puts a declaration into a table that has none of its code: as its next row, or among the others.
+    /// Adds a declaration to a table that has none with its code: as its next row, or among the others.
     fn put(
         &mut self,
         heap: Heap,
@@ -119,7 +119,7 @@ impl<'a> Declarations<'a> {
         Ok(())
     }
 
-    /// Puts a declaration into a table, unless there is one of its code.
+    /// Adds a declaration to a table, unless the table has one with its code.
     pub fn keep_first(
         &mut self,
         heap: Heap,

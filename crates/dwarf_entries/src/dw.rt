@@ -1,9 +1,9 @@
-//! The constants of DWARF 5, sections 7.5.1, 7.5.3 and 7.5.4, that are asked here.
+//! The constants of DWARF 5, sections 7.5.1, 7.5.3 and 7.5.4, that are used here.
 
 /// A full compilation unit.
 pub(crate) const DW_UT_COMPILE: u8 = 0x01;
 
-/// A partial one.
+/// A partial compilation unit.
 pub(crate) const DW_UT_PARTIAL: u8 = 0x03;
 
 /// An entry has children.

@@ -1,4 +1,4 @@
-//! The entries of a unit, one after another (DWARF 5, section 2.3).
+//! The entries of a unit, as an iterator (DWARF 5, section 2.3).
 
 ghost use Rattle.std.specs.Prelude.{◌≡◌, ◌≤◌, ◌<◌, ◌+◌, ◌^◌, length, IfSome};
 ghost use Rattle.std.specs.Option.{option_map, option_map_or};
@@ -13,15 +13,16 @@ use std::marker::Model;
 /// An entry in its unit.
 #[derive(Clone, Copy)]
 pub struct PlacedEntry<'t, 'a> {
-    /// Its offset from the beginning of the unit.
+    /// The offset of the entry from the beginning of the unit.
     pub offset: usize,
-    /// In how many entries it stands; 0 for the first.
+    /// The number of entries around it; 0 for the first entry.
     pub depth: usize,
     pub entry: UnreadEntry<'t, 'a>,
 }
 
-/// The entries of a unit, in order, without null entries: up to the one that closes the first entry, the end of the
-/// unit, or the first that cannot be read. It takes no memory. A contract sees the list of those that are left.
+/// The entries of a unit, in order, without null entries. They end before the null entry that closes the first entry,
+/// at the end of the unit, or before the first entry that cannot be read. It allocates no memory. A contract sees the
+/// list of the entries that are left.
 #[derive(Drop)]
 pub struct Entries<'t, 'a> {
     table: Table<'t, 'a>,

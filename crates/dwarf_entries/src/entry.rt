@@ -12,12 +12,12 @@ use dwarf_encoding::read_value;
 #[derive(Clone, Copy)]
 pub struct Entry<'a> {
     pub tag: u64,
-    /// Whether the entries that follow stand in it, up to the null entry that ends them.
+    /// Whether the entries after it, up to a null entry, are its children.
     pub has_children: bool,
     pub attributes: Attributes<'a>,
 }
 
-/// The values of the pairs of attributes and forms, with those of the declaration, and the bytes after them.
+/// The values of these pairs of attributes and forms, with those of the declaration, and the bytes after them.
 pub(crate) fn read_attributes<'a>(
     version: u16,
     constants: Attributes<'a>,

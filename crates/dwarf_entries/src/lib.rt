@@ -1,11 +1,11 @@
 //! Debugging information entries (DWARF 5, sections 2 and 7.5), of the versions 2 to 5 in the 32-bit format, with
 //! addresses of eight bytes: the abbreviations, the headers of units, and the entries of a unit. Damage is never an
-//! error: what stands before it counts.
+//! error: the entries before it count.
 //!
-//! The modules in reading order: `dw`, the constants; `attributes`, those that are asked here; `specification`,
-//! `declaration`, `reading`, `declarations` and `abbreviations`, what `__debug_abbrev` says of entries; `unit_header`;
-//! `entry`, one of them with its values, `unread_entry`, one whose values are read when they are asked for, and
-//! `one_entry`, the one at an offset; `entries`, those of a unit with their depths.
+//! The modules in reading order: `dw`, the constants; `attributes`, those that are read here; `specification`,
+//! `declaration`, `reading`, `declarations` and `abbreviations`, the tables of `__debug_abbrev`; `unit_header`;
+//! `entry`, an entry with its values, `unread_entry`, one whose values are read on demand, and `one_entry`, the one at
+//! an offset; `entries`, those of a unit with their depths.
 #![tactic(auto)]
 
 mod abbreviations;
@@ -26,7 +26,7 @@ pub use attributes::{Attribute, Attributes};
 pub use declaration::Declaration;
 pub use entries::{Entries, PlacedEntry};
 pub use entry::Entry;
-pub use one_entry::entry_of;
+pub use one_entry::entry_within;
 pub use specification::{Shape, Specification};
 pub use unit_header::UnitHeader;
 pub use unread_entry::UnreadEntry;

@@ -2,7 +2,7 @@
 
 ghost use Rattle.std.specs.Prelude.{◌≡◌, take, drop};
 ghost use Rattle.std.specs.Option.{option_map};
-ghost use Rattle.dwarf_entries.specs.Entries.{entry_of};
+ghost use Rattle.dwarf_entries.specs.Entries.{entry_within};
 ghost use Rattle.dwarf_entries.specs.EntryViews.{entry_view};
 
 use crate::abbreviations::Abbreviations;
@@ -10,7 +10,7 @@ use crate::entry::Entry;
 use crate::unit_header::UnitHeader;
 use crate::unread_entry::skip_entry;
 
-/// The bytes from an offset on, at most so many.
+/// The bytes from an offset on, at most `room` of them.
 fn bytes_at(unit: &[u8], offset: usize, room: usize) -> &[u8]
     ensures { result.now ≡ take room (drop offset unit.now) }
 {
@@ -18,9 +18,9 @@ fn bytes_at(unit: &[u8], offset: usize, room: usize) -> &[u8]
     from.split_at(room.min(from.len())).0
 }
 
-/// The one entry at an offset of its unit, of which at most `room` bytes are read, and how many of these are left;
-/// `None` if the offset lies before the first entry, the entry cannot be read, or it is a null entry.
-pub fn entry_of<'a>(
+/// The entry at an offset of its unit, and the number of bytes left of `room`, the most bytes to read; `None` if the
+/// offset is before the first entry, the entry cannot be read, or it is a null entry.
+pub fn entry_within<'a>(
     abbreviations: &Abbreviations<'a>,
     header: &UnitHeader,
     unit: &'a [u8],
@@ -28,7 +28,7 @@ pub fn entry_of<'a>(
     room: usize,
 ) -> Option<(Entry<'a>, usize)>
     ensures { option_map (λ x. (entry_view x.0, x.1)) result
-        ≡ entry_of room abbreviations.now header.now unit.now offset }
+        ≡ entry_within room abbreviations.now header.now unit.now offset }
 {
     if offset < header.entries_offset as u64 {
         return None;

@@ -1,4 +1,4 @@
-//! How declarations are read (DWARF 5, section 7.5.3).
+//! The reading of declarations (DWARF 5, section 7.5.3).
 
 ghost use Rattle.std.specs.Prelude.{◌≡◌, IfOk};
 ghost use Rattle.std.specs.Option.{option_map};
@@ -39,7 +39,7 @@ fn read_body<'a>(
     Ok(Some((declaration, rest)))
 }
 
-/// A code and its declaration, or `None` for the code 0 that ends a table, and the bytes after it.
+/// A code and its declaration, or `None` for the code 0, which ends a table; and the bytes after it.
 #[tactic(auto, unfolding(crate::specs::Abbreviations::declaration_at))]
 pub(crate) fn read_declaration<'a>(
     heap: Heap,

@@ -20,16 +20,16 @@ pub struct Specification {
     pub implicit: u64,
 }
 
-/// What an entry needs of the specifications of its declaration.
+/// The parts of a declaration's specifications that an entry needs.
 #[derive(Drop)]
 pub struct Shape<'a> {
-    /// The values that stand in the declaration.
+    /// The values that are stored in the declaration.
     pub constants: Attributes<'a>,
-    /// The attribute and the form of each value that stands in an entry, in order.
+    /// The attribute and the form of each value that is stored in an entry, in order.
     pub pairs: Vec<(u64, u64), Heap>,
 }
 
-/// A specification, or `None` for the pair of zeros that ends them, and the bytes after it.
+/// A specification, or `None` for the pair of zeros that ends the specifications; and the bytes after it.
 #[tactic(auto, unfolding(crate::specs::Specifications::specification_at))]
 fn read_specification(bytes: &[u8]) -> Option<(Option<Specification>, &[u8])>
     ensures { option_map (λ x. (x.0, x.1.now)) result ≡ specification_at bytes.now }
@@ -53,7 +53,7 @@ fn read_specification(bytes: &[u8]) -> Option<(Option<Specification>, &[u8])>
 }
 
 impl<'a> Shape<'a> {
-    /// Adds a specification. A value of DW_FORM_flag_present has no byte and says nothing here.
+    /// Adds a specification. A value of DW_FORM_flag_present has no bytes and is ignored here.
     fn add(&mut self, specification: Specification) -> Result<(), NoMemory>
         ensures { OnOk result (shape_view self.new ≡ with_specification (shape_view self.old) specification) }
     {
@@ -68,7 +68,8 @@ impl<'a> Shape<'a> {
     }
 }
 
-/// The specifications up to the pair of zeros that ends them, and the bytes after that.
+/// The shape of the specifications before the pair of zeros that ends them, and the bytes after that pair; `None` if
+/// they cannot be read. The error is `NoMemory`.
 pub(crate) fn read_shape<'a>(
     heap: Heap,
     bytes: &'a [u8],

@@ -6,7 +6,7 @@ ghost use Rattle.dwarf_entries.specs.UnitHeaders.{header_of, header_of_version_5
 use crate::dw::{DW_UT_COMPILE, DW_UT_PARTIAL};
 use dwarf_encoding::{is_64_bit, u16_le_at, u32_le_at};
 
-/// What the entries of a unit need of its header.
+/// The fields of a unit's header that its entries need.
 #[derive(Clone, Copy)]
 pub struct UnitHeader {
     pub version: u16,
@@ -46,7 +46,7 @@ fn header_to_version_4(version: u16, unit: &[u8]) -> Option<UnitHeader>
 
 impl UnitHeader {
     /// The header of a unit, with its initial length; `None` if it is in the 64-bit format, its version is not 2 to 5,
-    /// its address size is not 8, it passes the end, or it is not a compilation unit.
+    /// its address size is not 8, it passes the end, or the unit is no full or partial compilation unit.
     pub fn of(unit: &[u8]) -> Option<UnitHeader>
         ensures value { result ≡ header_of unit.now }
         ensures within { IfSome result (λ h. h.entries_offset ≤ length unit.now) }

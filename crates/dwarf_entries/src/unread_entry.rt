@@ -1,4 +1,4 @@
-//! An entry whose values are read when they are asked for (DWARF 5, section 7.5.2).
+//! An entry whose values are read on demand (DWARF 5, section 7.5.2).
 
 ghost use Rattle.std.specs.Prelude.{◌≡◌};
 ghost use Rattle.std.specs.Option.{option_map};
@@ -18,7 +18,7 @@ pub struct UnreadEntry<'t, 'a> {
     declaration: &'t Declaration<'a>,
     /// The version of its unit.
     version: u16,
-    /// The bytes from its values on.
+    /// The bytes from its first value on.
     values: &'a [u8],
 }
 
@@ -30,7 +30,7 @@ impl<'t, 'a> UnreadEntry<'t, 'a> {
         self.declaration.tag
     }
 
-    /// Whether the entries that follow stand in it, up to the null entry that ends them.
+    /// Whether the entries after it, up to a null entry, are its children.
     pub fn has_children(&self) -> bool
         ensures { result ≡ (unread_view self.now).has_children }
     {
@@ -59,7 +59,8 @@ impl<'t, 'a> UnreadEntry<'t, 'a> {
     }
 }
 
-/// The entry that begins the bytes, or `None` for a null entry, and the bytes after it; `None` if it cannot be read.
+/// The entry that begins the bytes, or `None` for a null entry, and the bytes after it; `None` for both if it cannot be
+/// read.
 #[tactic(auto, unfolding(crate::specs::Entries::entry_at))]
 pub(crate) fn skip_entry<'t, 'a>(
     table: &Table<'t, 'a>,

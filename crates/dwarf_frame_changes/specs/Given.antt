@@ -1,4 +1,4 @@
--- The frames at the turns of an image, as they are given to a sink.
+-- The frames at the turns of an image, as a sink receives them.
 use Rattle.std.specs.Prelude.{ℕ, List, [], ◌++◌, ◌≡◌, ◌<◌, length, map, slice_index_or, Option, Some, All, Contains}
 use Rattle.dwarf_source_frames.specs.AddressFrames.{AreFramesBy}
 use Rattle.dwarf_source_frames.specs.DebugSections.{DebugSectionsRecord, debug_sections}
@@ -12,7 +12,7 @@ pub record TurnRecord : Type 0 where
   pub address : ℕ
   pub frames : List FrameRecord
 
--- what has taken some turns has then taken these too
+-- a receiver that had received some turns has then received these too
 abbrev pub Takes : (List TurnRecord → Type 0) → (List TurnRecord → Type 0) → List TurnRecord → Type 0
 Takes has_before has_now given = (before : List TurnRecord) → has_before before → has_now (before ++ given)
 
@@ -20,7 +20,7 @@ Takes has_before has_now given = (before : List TurnRecord) → has_before befor
 abbrev pub without_frames : ℕ → TurnRecord
 without_frames address = record { address = address; frames = [] }
 
--- the addresses of some
+-- the addresses of these turns
 abbrev pub addresses : List TurnRecord → List ℕ
 addresses turns = map (λ turn. turn.address) turns
 
@@ -52,7 +52,7 @@ pub record AreTurnsWithUnits (sections : DebugSectionsRecord) (turns : List Turn
   pub all : (a place : ℕ) → IsUnitOf sections a (Some place) → IsTurnBy sections a → Contains (addresses turns) a
   pub once : AreDistinct (addresses turns)
 
--- each turn whose unit is at this offset, or that has none, ascending, with its frames
+-- each turn whose unit is at this offset, or each that has no unit, ascending, with its frames
 pub record AreTurnsIn (sections : DebugSectionsRecord) (place : Option ℕ) (turns : List TurnRecord) : Type 0 where
   pub each : All (λ turn. IsUnitOf sections turn.address place × IsTurnWithFrames sections turn) turns
   pub all : (a : ℕ) → IsUnitOf sections a place → IsTurnBy sections a → Contains (addresses turns) a

@@ -14,35 +14,35 @@ use Rattle.dwarf_source_frames.specs.Scopes.{scopes_of}
 use Rattle.dwarf_source_frames.specs.UnitAddresses.{own_ranges}
 use Rattle.dwarf_source_frames.specs.UnitLines.{lines_of}
 
--- where a tuple begins, and where it ends, if that is an address
+-- the first address of a tuple, and its end, if that is an address
 abbrev pub ends_of_tuple : Arange → List ℕ
 ends_of_tuple tuple =
     tuple.address
     ∷ (if nat_lt (tuple.address + tuple.length) (2 ^ 64) then (tuple.address + tuple.length) ∷ [] else [])
 
--- where a range begins and ends
+-- the first address and the end of a range
 abbrev pub ends_of_range : CodeRange → List ℕ
 ends_of_range range = range.low ∷ (range.high ∷ [])
 
--- where ranges begin and end
+-- the first addresses and the ends of ranges
 abbrev pub ends_of : List CodeRange → List ℕ
 ends_of ranges = flat_map ends_of_range ranges
 
--- where the tuples of __debug_aranges begin and end, and the ranges of the units that no set of it names: the addresses
--- at which the unit may change
+-- the first addresses and the ends of the tuples of __debug_aranges, and of the ranges of the units that no set of it
+-- names: the addresses at which the unit may change
 unfoldable pub boundaries : DebugSectionsRecord → List ℕ
 boundaries sections =
     flat_map ends_of_tuple (aranges_of sections.debug_aranges)
     ++ flat_map (λ u. ends_of (own_ranges sections u.0 u.1)) (placed unit_at sections.debug_info)
 
--- where the ranges of the functions of a unit begin and end, and the addresses of the rows of its program: those at
--- which the frames in it may change
+-- the first addresses and the ends of the ranges of a unit's functions, and the addresses of the rows of its program:
+-- the addresses at which the frames in the unit may change
 unfoldable pub unit_turns : DebugSectionsRecord → UnitRecord → List ℕ
 unit_turns sections unit =
     flat_map (λ scope. ends_of scope.ranges) (scopes_of sections unit)
     ++ map (λ row. row.registers.address) (rows_of (lines_of sections unit))
 
--- a turn of the unit that an address is of
+-- a turn of the unit of an address
 abbrev pub IsUnitTurn : DebugSectionsRecord → ℕ → Type 0
 IsUnitTurn sections address =
     (unit : UnitRecord) × IsInUnit sections unit address × Contains (unit_turns sections unit) address

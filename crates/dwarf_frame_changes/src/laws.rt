@@ -1,4 +1,4 @@
-//! What the definitions say of each other.
+//! Relations between the definitions.
 
 ghost use Rattle.std.specs.Prelude.{[], ◌≡◌, ◌<◌, ◌≤◌, ◌^◌, ℕ, List};
 ghost use Rattle.dwarf_frame_changes.specs.Turns.{IsTurn};
@@ -12,13 +12,13 @@ pub fn same_between_turns()
         → AreFramesOf image a frames → AreFramesOf image b frames }
 {}
 
-/// Before the first turn an address has no frames.
+/// An address before the first turn has no frames.
 pub fn no_frames_before_turns()
     ensures { (image : List ℕ) (a : ℕ) (frames : List FrameRecord) → a < 2 ^ 64
         → ((turn : ℕ) → turn ≤ a → IsTurn image turn → ⊥) → AreFramesOf image a frames → frames ≡ [] }
 {}
 
-/// Before the first turn the empty list is that of the frames of an address.
+/// The empty list is that of the frames of an address before the first turn.
 pub fn empty_before_turns()
     ensures { (image : List ℕ) (a : ℕ) → a < 2 ^ 64
         → ((turn : ℕ) → turn ≤ a → IsTurn image turn → ⊥) → AreFramesOf image a [] }

@@ -1,15 +1,16 @@
-//! The addresses at which the frames of an image may change, its turns, and the frames there: all that a table of the
-//! frames of each address is made of.
+//! The addresses at which the frames of an image may change, its turns, and the frames there: the contents of a table
+//! of the frames of each address.
 //!
-//! The frames of an address are those of its unit. The unit changes at boundaries alone: where the tuples of
-//! `__debug_aranges` begin and end, and the ranges of the units that no set of it names. In a unit, the frames change
-//! where the ranges of functions begin and end, and at the addresses of rows. So the turns are the boundaries, and of
-//! each unit those of these addresses whose unit it is.
+//! The frames of an address are those of its unit. The unit changes at boundaries alone: the addresses at which the
+//! tuples of `__debug_aranges`, and the ranges of the units that no set of it names, begin and end. Within a unit, the
+//! frames change where the ranges of functions begin and end, and at the addresses of rows. So the turns are the
+//! boundaries, and these addresses of each unit, if they belong to the unit.
 //!
-//! The modules in reading order: `unit_boundaries`, where the units change; `unit_steps`, the unit of each address;
-//! `sink`, [`FrameSink`], what takes turns with their frames, told by number; `names` and `numbers`, those of the
-//! names, paths and links of a unit; `next_start` and `merging`, the turns of a unit from one boundary to the next;
-//! `unit_by_unit`, [`push_turns`], all turns of an image; `laws`, that the frames stay the same between two turns.
+//! The modules in reading order: `unit_boundaries`, the addresses at which the unit changes; `unit_steps`, the unit of
+//! each address; `sink`, [`FrameSink`], which accepts turns with numbers for their frames; `names` and `numbers`, the
+//! numbers for the names, paths and links of a unit; `next_start` and `merging`, the turns of a unit from one boundary
+//! to the next; `unit_by_unit`, [`push_turns`], all turns of an image; `laws`: the frames stay the same between two
+//! turns.
 #![tactic(auto)]
 
 pub mod laws;

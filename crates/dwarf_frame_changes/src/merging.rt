@@ -23,7 +23,7 @@ use dwarf_lines::Row;
 use dwarf_source_frames::{DebugInfo, DebugUnit, SourceLocation, UnitLines};
 use memory::{Heap, NoMemory};
 
-/// What the frames of a unit are made of.
+/// The parts of a unit from which its frames are built.
 #[derive(Drop)]
 pub(crate) struct UnitParts<'a> {
     pub paths: Paths,
@@ -32,7 +32,7 @@ pub(crate) struct UnitParts<'a> {
 }
 
 impl<'a> UnitParts<'a> {
-    /// Those of a unit, of which a sink gets the names, paths and calls.
+    /// The parts of a unit. Its names, paths and calls are added to a sink.
     pub fn read<T: FrameSink<'a>>(
         heap: Heap,
         info: &DebugInfo<'a>,
@@ -57,7 +57,7 @@ impl<'a> UnitParts<'a> {
         })
     }
 
-    /// The number of the frames of a row and of the link of a number.
+    /// The number of the frames of a row and of the link with a number.
     fn frames<T: FrameSink<'a>>(
         &mut self,
         lines: &UnitLines<'a>,
@@ -87,7 +87,7 @@ impl<'a> UnitParts<'a> {
         Ok(found)
     }
 
-    /// Gives an address with the frames of its row and its link.
+    /// Pushes an address with the frames of its row and its link.
     fn push_turn<T: FrameSink<'a>>(
         &mut self,
         lines: &UnitLines<'a>,
@@ -113,7 +113,7 @@ impl<'a> UnitParts<'a> {
         Ok(())
     }
 
-    /// Gives the turns from an address on, below another one.
+    /// Pushes the turns from an address on, below another one.
     fn push_turns_between<T: FrameSink<'a>>(
         &mut self,
         lines: &UnitLines<'a>,
@@ -147,7 +147,7 @@ impl<'a> UnitParts<'a> {
         Ok(())
     }
 
-    /// Gives the turns of the unit from each of its boundaries on, up to the next boundary.
+    /// Pushes the turns of the unit from each of its boundaries on, up to the next boundary.
     pub fn push_all_turns<T: FrameSink<'a>>(
         &mut self,
         lines: &UnitLines<'a>,

@@ -1,4 +1,4 @@
-//! The numbers that a sink gave to the names of the links of a unit.
+//! The numbers that a sink returned for the names of a unit's links.
 
 ghost use Rattle.std.specs.Prelude.{[], ◌≡◌, ◌<◌, ℕ, IfOk, OnOk, Some, length, slice_get};
 ghost use Rattle.dwarf_frame_changes.specs.Given.{Takes};
@@ -12,14 +12,14 @@ use crate::sink::FrameSink;
 use dwarf_functions::{Link, Links};
 use memory::{Heap, NoMemory};
 
-/// The numbers of names under the numbers that their unit has for them.
+/// The sink's numbers of names, by the unit's own numbers of names.
 #[derive(Drop)]
 pub(crate) struct Names {
     by_number: Vec<Option<u32>, Heap>,
 }
 
 impl Names {
-    /// None, of so many.
+    /// `count` names without numbers.
     pub fn new(heap: Heap, count: usize) -> Result<Names, NoMemory>
         ensures count { IfOk result (λ names. length names.by_number.items ≡ count) }
         ensures none { IfOk result (λ names. (n number : ℕ)
@@ -30,7 +30,7 @@ impl Names {
         })
     }
 
-    /// The number of the name of the link of an index, which is kept.
+    /// The number of the name of the link at an index, which is then kept.
     pub fn number_of_name<'a, T: FrameSink<'a>>(
         &mut self,
         links: &Links<'a>,

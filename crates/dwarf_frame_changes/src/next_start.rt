@@ -1,4 +1,4 @@
-//! The steps of the rows and of the links of a unit, gone over together.
+//! A common walk over the steps of a unit's rows and of its links.
 
 ghost use Rattle.std.specs.Prelude.{◌≡◌, ◌≤◌, ◌<◌, ℕ, IfNone, IfSome, None, Some, length, slice_get, slice_index};
 ghost use Rattle.dwarf_frame_changes.specs.Between.{IsBelow, IsCountTo, IsNextStart, least};
@@ -8,7 +8,7 @@ ghost use Rattle.dwarf_asked_addresses.specs.Rising.{AreRising, IsCountBelow};
 use dwarf_functions::{Links, RowSteps};
 use dwarf_lines::Row;
 
-/// How many starts are not above an address, of which so many are below it.
+/// The number of starts at or below an address, if `below` starts are below it.
 pub(crate) fn count_to(starts: &[u64], below: usize, address: u64) -> usize
     requires rising { AreRising starts.now }
     requires count { IsCountBelow starts.now address below }
@@ -20,7 +20,7 @@ pub(crate) fn count_to(starts: &[u64], below: usize, address: u64) -> usize
     below
 }
 
-/// The row of an address, to which there are so many steps.
+/// The row of an address, if `count` steps start at or below it.
 pub(crate) fn row_of(rows: &RowSteps, count: usize) -> Option<Row>
     requires within { count ≤ length rows.now.rows.items }
     requires same { length rows.now.rows.items ≡ length rows.now.starts.items }
@@ -33,7 +33,7 @@ pub(crate) fn row_of(rows: &RowSteps, count: usize) -> Option<Row>
     rows.rows[count - 1]
 }
 
-/// The number of the link of an address, to which there are so many steps.
+/// The number of the link of an address, if `count` steps start at or below it.
 pub(crate) fn number_of(links: &Links<'_>, count: usize) -> usize
     requires within { count ≤ length links.now.numbers.items }
     requires same { length links.now.numbers.items ≡ length links.now.starts.items }
@@ -48,7 +48,7 @@ pub(crate) fn number_of(links: &Links<'_>, count: usize) -> usize
     links.numbers[count - 1]
 }
 
-/// The start of an index, if there is one.
+/// The start at an index; `None` if there is none.
 pub(crate) fn start_at(starts: &[u64], index: usize) -> Option<u64>
     ensures { result ≡ slice_get starts.now index }
 {
@@ -58,7 +58,7 @@ pub(crate) fn start_at(starts: &[u64], index: usize) -> Option<u64>
     Some(starts[index])
 }
 
-/// The lesser of two addresses, if there is one.
+/// The lesser of two addresses; the other one if one is missing.
 fn least(a: Option<u64>, b: Option<u64>) -> Option<u64>
     ensures { result ≡ least a b }
 {
@@ -69,7 +69,7 @@ fn least(a: Option<u64>, b: Option<u64>) -> Option<u64>
     }
 }
 
-/// The first start above an address, to which there are so many steps of rows and of links.
+/// The first start above an address, if `row` steps of rows and `link` steps of links start at or below it.
 pub(crate) fn next_start(rows: &[u64], links: &[u64], row: usize, link: usize) -> Option<u64>
     requires rows { AreRising rows.now }
     requires links { AreRising links.now }
@@ -79,7 +79,7 @@ pub(crate) fn next_start(rows: &[u64], links: &[u64], row: usize, link: usize) -
     least(start_at(rows, row), start_at(links, link))
 }
 
-/// An address, if it is below another one.
+/// The address, if it is below another one.
 pub(crate) fn below(address: Option<u64>, end: Option<u64>) -> Option<u64>
     ensures some { IfSome result (λ a. (address ≡ Some a) × IsBelow a end) }
     ensures none { IfNone result (IfSome address (λ a. (e : ℕ) × (end ≡ Some e) × (e ≤ a))) }

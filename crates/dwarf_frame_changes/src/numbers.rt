@@ -1,4 +1,4 @@
-//! The numbers that a sink gave to the paths and the links of a unit.
+//! The numbers that a sink returned for the paths and the links of a unit.
 
 ghost use Rattle.std.specs.Prelude.{[], ◌≡◌, ◌≢◌, ◌<◌, ◌+◌, ℕ, IfOk, OnOk, Some, None, length};
 ghost use Rattle.std.specs.Ordering.{nat_cmp};
@@ -20,7 +20,7 @@ use dwarf_source_frames::{SourceLocation, UnitLines};
 use memory::{Heap, NoMemory};
 use std::collections::BTreeMap;
 
-/// The numbers of paths under the indexes of their files, and the last one that was asked for.
+/// The numbers of paths by the indexes of their files, and the index that was looked up last, with its number.
 #[derive(Drop)]
 pub(crate) struct Paths {
     by_index: BTreeMap<u64, u32, Heap>,
@@ -28,7 +28,7 @@ pub(crate) struct Paths {
 }
 
 impl Paths {
-    /// None.
+    /// Paths without numbers.
     pub fn new(heap: Heap) -> Paths
         ensures index { (i : ℕ) → tree_map.get nat_cmp result.by_index i ≡ None }
         ensures last { result.last ≡ None }
@@ -50,7 +50,7 @@ impl Paths {
         Ok(())
     }
 
-    /// The number of the path of a file, which is kept.
+    /// The number of the path of a file, which is then kept.
     fn find<'a, T: FrameSink<'a>>(
         &mut self,
         lines: &UnitLines<'a>,
@@ -73,7 +73,7 @@ impl Paths {
         Ok(number)
     }
 
-    /// The number of the path of a file, or of none.
+    /// The number of the path of a file, or of no path.
     pub fn number<'a, T: FrameSink<'a>>(
         &mut self,
         lines: &UnitLines<'a>,
@@ -102,14 +102,14 @@ impl Paths {
     }
 }
 
-/// The numbers of a link: of its name, and of the frames of those that it stands in.
+/// The numbers of a link: of its name, and of the frames of the links that call it.
 #[derive(Clone, Copy)]
 pub(crate) struct Linked {
     pub name: u32,
     pub callers: u32,
 }
 
-/// Adds the numbers of the next link, those of the links before it being known.
+/// Adds the numbers of the next link. Those of the links before it are known.
 fn push_linked<'a, T: FrameSink<'a>>(
     lines: &UnitLines<'a>,
     paths: &mut Paths,
@@ -177,7 +177,7 @@ pub(crate) fn number_links<'a, T: FrameSink<'a>>(
     Ok(all)
 }
 
-/// The number of the frames of a row alone.
+/// The number of the frame of a row alone, which has no function.
 pub(crate) fn frames_of_row<'a, T: FrameSink<'a>>(
     lines: &UnitLines<'a>,
     paths: &mut Paths,

@@ -1,4 +1,4 @@
-//! What takes turns with their frames.
+//! A receiver of turns with their frames.
 
 ghost use Rattle.std.specs.Prelude.{◌∷◌, [], ℕ, IfOk, List, OnOk, Option};
 ghost use Rattle.std.specs.Option.{option_map};
@@ -11,20 +11,20 @@ ghost use Rattle.dwarf_source_frames.specs.Frames.{FrameRecord};
 use dwarf_lines::PathParts;
 use memory::NoMemory;
 
-/// What takes turns with their frames. It gives numbers to names, to paths and to the frames of addresses, so that each
-/// is given to it once; a number tells of the same from then on.
+/// A receiver of turns with their frames. It returns numbers for names, paths and frames, so that each is passed to it
+/// once; a number keeps its meaning from then on.
 pub trait FrameSink<'a> {
-    // This is the number of a name, or of none; of a path, or of none; of frames, the innermost first.
+    // This is the number of a name, or of no name; of a path, or of no path; of frames, the innermost first.
     ghost numbers_name: { Self → ℕ → Option (List ℕ) → Type 0 };
 
     ghost numbers_path: { Self → ℕ → Option PathRecord → Type 0 };
 
     ghost numbers_frames: { Self → ℕ → List FrameRecord → Type 0 };
 
-    // It is as it is once it has taken these, in this order.
+    // It has received these turns, in this order.
     ghost has_received: { Self → List TurnRecord → Type 0 };
 
-    /// The number of a name.
+    /// The number of a name, or of no name.
     fn name(&mut self, name: Option<&'a [u8]>) -> Result<u32, NoMemory>
         ensures is { IfOk result (λ number. numbers_name self.new number (option_map (λ n. n.now) name.entry)) }
         ensures names { KeepsNumbers (numbers_name self.old) (numbers_name self.new) }
@@ -32,7 +32,7 @@ pub trait FrameSink<'a> {
         ensures frames { KeepsNumbers (numbers_frames self.old) (numbers_frames self.new) }
         ensures taken { Takes (has_received self.old) (has_received self.new) [] };
 
-    /// The number of a path.
+    /// The number of a path, or of no path.
     fn path(&mut self, path: Option<PathParts<'a>>) -> Result<u32, NoMemory>
         ensures is { IfOk result (λ number. numbers_path self.new number (option_map path_view path.entry)) }
         ensures names { KeepsNumbers (numbers_name self.old) (numbers_name self.new) }
@@ -40,7 +40,7 @@ pub trait FrameSink<'a> {
         ensures frames { KeepsNumbers (numbers_frames self.old) (numbers_frames self.new) }
         ensures taken { Takes (has_received self.old) (has_received self.new) [] };
 
-    /// The number of no frames.
+    /// The number of the empty list of frames.
     fn no_frames(&self) -> u32
         ensures { numbers_frames self.now result [] };
 
@@ -66,7 +66,7 @@ pub trait FrameSink<'a> {
         ensures frames { KeepsNumbers (numbers_frames self.old) (numbers_frames self.new) }
         ensures taken { Takes (has_received self.old) (has_received self.new) [] };
 
-    /// Takes an address and the number of its frames.
+    /// Receives an address and the number of its frames.
     fn push(&mut self, address: u64, number: u32) -> Result<(), NoMemory>
         requires { (frames : List FrameRecord) × numbers_frames self.old number frames }
         ensures taken { OnOk result ((frames : List FrameRecord) → numbers_frames self.old number frames

@@ -19,7 +19,7 @@ use dwarf_source_frames::DebugInfo;
 use memory::{Heap, NoMemory};
 use std::collections::BTreeSet;
 
-/// Adds where ranges begin and end.
+/// Adds the addresses at which ranges begin and end.
 fn push_ranges(starts: &mut Vec<u64, Heap>, ranges: Ranges<'_>) -> Result<(), NoMemory>
     ensures { OnOk result (starts.new.items ≡ starts.old.items ++ ends_of ranges.entry) }
 {
@@ -30,7 +30,7 @@ fn push_ranges(starts: &mut Vec<u64, Heap>, ranges: Ranges<'_>) -> Result<(), No
     Ok(())
 }
 
-/// Adds where a tuple begins, and where it ends, if that is an address.
+/// Adds the first address of a tuple, and its end, if that is an address.
 fn push_tuple(starts: &mut Vec<u64, Heap>, tuple: &Arange) -> Result<(), NoMemory>
     ensures { OnOk result (starts.new.items ≡ starts.old.items ++ ends_of_tuple tuple.now) }
 {
@@ -41,7 +41,7 @@ fn push_tuple(starts: &mut Vec<u64, Heap>, tuple: &Arange) -> Result<(), NoMemor
     Ok(())
 }
 
-/// Adds where tuples begin and end.
+/// Adds the first addresses and the ends of tuples.
 fn push_tuples(starts: &mut Vec<u64, Heap>, tuples: Aranges<'_>) -> Result<(), NoMemory>
     ensures { OnOk result (starts.new.items ≡ starts.old.items ++ flat_map ends_of_tuple tuples.entry) }
 {
@@ -51,7 +51,7 @@ fn push_tuples(starts: &mut Vec<u64, Heap>, tuples: Aranges<'_>) -> Result<(), N
     Ok(())
 }
 
-/// Adds where the ranges of the units begin and end that no set names.
+/// Adds the addresses at which the ranges of those units begin and end that no set names.
 fn push_units(
     starts: &mut Vec<u64, Heap>,
     info: &DebugInfo<'_>,
@@ -73,8 +73,8 @@ fn push_units(
     Ok(())
 }
 
-/// The boundaries of units, ascending, each once. It takes the time of `__debug_aranges`, of the first entries of the
-/// units and of sorting them, and the memory of them.
+/// The boundaries of units, ascending, each once. The time is that of reading `__debug_aranges` and the first entries
+/// of the units, and of a sort of the boundaries; the memory is that of the boundaries.
 pub(crate) fn boundaries(heap: Heap, info: &DebugInfo<'_>) -> Result<Vec<u64, Heap>, NoMemory>
     ensures rising { IfOk result (λ starts. AreRising starts.items) }
     ensures same { IfOk result (λ starts. (a : ℕ) → Contains starts.items a

@@ -25,7 +25,7 @@ use dwarf_source_frames::{ByUnit, DebugInfo, UnitLines, take_unit};
 use macho_image::Image;
 use memory::{Heap, NoMemory};
 
-/// A unit: where its program stands, its offset, and its boundaries.
+/// A unit: the offset of its program, its own offset, and its boundaries.
 #[derive(Drop)]
 struct UnitBoundaries {
     program: u64,
@@ -40,7 +40,7 @@ struct LastRows {
     rows: RowSteps,
 }
 
-/// Gives addresses without frames.
+/// Pushes addresses without frames.
 fn push_without_frames<'a, T: FrameSink<'a>>(
     sink: &mut T,
     addresses: &[u64],
@@ -57,7 +57,7 @@ fn push_without_frames<'a, T: FrameSink<'a>>(
 }
 
 impl LastRows {
-    /// Runs the program at an offset, which a unit has, unless it was the last one.
+    /// Runs a unit's program at an offset, unless it is the last one that was run.
     fn run(
         &mut self,
         heap: Heap,
@@ -78,7 +78,7 @@ impl LastRows {
     }
 }
 
-/// Gives the turns whose unit is the one at an offset, with their frames. Its boundaries are given.
+/// Pushes the turns of the unit at an offset, with their frames. Its boundaries are an argument.
 fn push_unit_turns<'a, T: FrameSink<'a>>(
     heap: Heap,
     info: &DebugInfo<'a>,
@@ -111,14 +111,14 @@ fn push_unit_turns<'a, T: FrameSink<'a>>(
 }
 
 /// The offset of the program of the unit at an offset; units without one come last.
-fn program_at(info: &DebugInfo<'_>, place: u64) -> u64 {
+fn program_offset_at(info: &DebugInfo<'_>, place: u64) -> u64 {
     match info.unit_at(place) {
         Some(unit) => unit.program_offset().unwrap_or(u64::MAX),
         None => u64::MAX,
     }
 }
 
-/// The units, in the order of their programs, each with its boundaries.
+/// The units in the order of their programs, each with its boundaries.
 fn by_program(
     heap: Heap,
     info: &DebugInfo<'_>,
@@ -129,7 +129,7 @@ fn by_program(
     let mut all = Vec::new(heap);
     'units: while let Some((place, list)) = take_unit(&mut by_unit) {
         all.push(UnitBoundaries {
-            program: program_at(info, place),
+            program: program_offset_at(info, place),
             place,
             boundaries: sorted_once(list.addresses),
         })?;
@@ -138,7 +138,7 @@ fn by_program(
     Ok(all)
 }
 
-/// Gives the turns that have a unit, one unit after another, with their frames. The boundaries are given.
+/// Pushes the turns that have a unit, one unit after another, with their frames. The boundaries are an argument.
 fn push_turns_of_units<'a, T: FrameSink<'a>>(
     heap: Heap,
     info: &DebugInfo<'a>,
@@ -166,11 +166,11 @@ fn push_turns_of_units<'a, T: FrameSink<'a>>(
     Ok(())
 }
 
-/// Gives each turn of an image, once, with its frames: first those that have no unit, and so no frames, then those of
-/// one unit after another. `__debug_aranges`, the declarations and the first entries of units are read for all
-/// together. Each unit that has a turn is read once. Units come in the order of their programs, and each program is run
-/// twice, however many units have it. It takes the memory of the boundaries of units, of the links of one unit, and of
-/// the rows of one program.
+/// Pushes each turn of an image, once, with its frames: first the turns without a unit, which have no frames, then
+/// those of one unit after another. `__debug_aranges`, the declarations and the first entries of units are read once
+/// for all. Each unit with a turn is read once. The units have the order of their programs, and each program is run
+/// twice, even if several units share it. The memory is that of the boundaries of units, of the links of one unit, and
+/// of the rows of one program.
 pub fn push_turns<'a, T: FrameSink<'a>>(
     heap: Heap,
     image: &Image<'a>,

@@ -20,7 +20,7 @@ pub(crate) struct UnitSteps {
     pub places: Vec<Option<u64>, Heap>,
 }
 
-/// How many of some numbers, which ascend, are not above an address.
+/// The number of starts, which ascend, at or below an address.
 fn count_to(starts: &[u64], address: u64) -> usize
     ensures { AreRising starts.now → IsCountTo starts.now address result }
 {
@@ -28,8 +28,8 @@ fn count_to(starts: &[u64], address: u64) -> usize
 }
 
 impl UnitSteps {
-    /// All of an image. It takes the time of `__debug_aranges` and of the first entries of the units, and the memory of
-    /// the boundaries.
+    /// All boundaries of an image. The time is that of reading `__debug_aranges` and the first entries of the units,
+    /// and the memory is that of the boundaries.
     pub fn read(heap: Heap, info: &DebugInfo<'_>) -> Result<UnitSteps, NoMemory>
         ensures { IfOk result (λ steps.
             AreUnitSteps (sections_view info.now.sections) steps.starts.items steps.places.items) }
@@ -39,7 +39,7 @@ impl UnitSteps {
         Ok(UnitSteps { starts, places })
     }
 
-    /// The boundaries that have no unit, and the others under the offsets of their units.
+    /// The boundaries without a unit, and the others grouped by the offsets of their units.
     pub fn by_unit(&self, heap: Heap) -> Result<(Vec<u64, Heap>, ByUnit), NoMemory>
         requires { length self.now.places.items ≡ length self.now.starts.items }
         ensures without { IfOk result (λ x. (a : ℕ) → Contains x.0.items a

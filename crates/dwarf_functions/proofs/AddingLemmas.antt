@@ -60,13 +60,14 @@ takes_none s unit asked u left depth entry ranges_end opened now_open before aft
 
 -- an entry is taken by closing what it does not stand in, and adding it
 pub takes_added : (s : DebugSectionsRecord) (unit : UnitRecord) (asked : Option (List ℕ)) (u : UnitRangesRecord)
-    (left depth : ℕ) (entry read : EntryRecord) (own : List CodeRange) (ranges_end : ℕ)
-    (opened stay now_open : List Open) (before closed after : List Function) → read ≡ entry → own
+    (left depth : ℕ) (entry read : EntryRecord) {own : List CodeRange} {ranges_end : ℕ}
+    {opened stay now_open : List Open} {before closed after : List Function} → read ≡ entry → own
     ≡ scope_ranges u left read
     → Closes depth opened stay before closed → Adds s unit
     (asked_scope asked (record { depth = depth; entry = read; ranges = own })) ranges_end stay now_open closed after
     → Takes s unit (asked_scope asked (scope_of u left depth entry)) ranges_end opened now_open before after
-takes_added s unit asked u left depth entry read own ranges_end opened stay now_open before closed after same ranges closes adds =
+takes_added s unit asked u left depth entry read {own = own} {ranges_end = ranges_end} {opened = opened} {stay = stay} {now_open = now_open}
+    {before = before} {closed = closed} {after = after} same ranges closes adds =
     let as_read : Adds s unit (asked_scope asked (scope_of u left depth read)) ranges_end stay now_open closed after =
     subst (λ (rs : List CodeRange). Adds s unit (asked_scope asked
     (record { depth = depth; entry = read; ranges = rs })) ranges_end stay now_open closed after) ranges adds in

@@ -5,7 +5,7 @@ use Rattle.std.specs.Option.{option_map_or}
 use Rattle.std.proofs.lemmas.Bool.{cases_eq}
 use Rattle.std.proofs.lemmas.List.{length-set, length_push}
 use Rattle.std.proofs.lemmas.Option.{none-some, same_Some, slice_get-get_or, slice_get_within}
-use Rattle.dwarf_functions.specs.Making.{AreKept, AreMade, IsChild, IsLinkIn, IsMade, caller_of, child_at, count_at, made_at}
+use Rattle.dwarf_functions.specs.Making.{AreKept, AreMade, IsChild, IsLinkIn, IsMadeLink, caller_of, child_at, count_at, made_at}
 use Rattle.dwarf_functions.specs.declared.links.Link.{Link}
 use Rattle.dwarf_functions.specs.declared.functions.Function.{Function}
 use Rattle.dwarf_functions.proofs.OpenLemmas.{at_push as get_last}
@@ -104,8 +104,8 @@ link_kept old new outer index number kept is =
 
 -- a link that is made stays so, with any last one that stands in it
 is_made_kept : (functions : List Function) (old new : List Link) (i child : ℕ) (link : Link) → AreKept old new
-    → i ≤ length old → IsMade functions old i link → IsChild new (suc i) child
-    → IsMade functions new i (record link { child = child })
+    → i ≤ length old → IsMadeLink functions old i link → IsChild new (suc i) child
+    → IsMadeLink functions new i (record link { child = child })
 is_made_kept functions old new i child link kept within made last = record {
   before = made.before;
   of = made.of;
@@ -153,13 +153,13 @@ module _ (functions : List Function) (old new : List Link) (last outer index num
   pub pushed_child : IsChild new outer number
   pushed_child = subst (λ n. IsChild new outer n) (sym number_is) (p.link, last_there, p.is_in)
 
-  old_made : (i : ℕ) (l : Link) → slice_get old i ≡ Some l → IsMade functions new i l
+  old_made : (i : ℕ) (l : Link) → slice_get old i ≡ Some l → IsMadeLink functions new i l
   old_made i l is =
       let m = p.made.each i l is in is_made_kept functions old new i l.child l pushed_kept
       (let w = slice_get_within old i l is in omega (arith, w)) m
       (child_kept old new (suc i) l.child pushed_kept m.child)
 
-  new_made : IsMade functions new (length old) p.link
+  new_made : IsMadeLink functions new (length old) p.link
   new_made = record {
     before = let c = p.is_in in let w = p.within in omega (arith, c, w);
     of = p.of;
@@ -176,7 +176,7 @@ module _ (functions : List Function) (old new : List Link) (last outer index num
   pushed_made = record {
     each = λ i l is. elim (from_pushed old p.link i l (ap (λ (links : List Link). slice_get links i) (sym p.is) ∙ is)) [
       | inl before ↦ old_made i l before
-      | inr at ↦ subst (λ n. IsMade functions new n l) (sym at.0) (subst (λ (m : Link). IsMade functions new (length old) m) (sym at.1) new_made)
+      | inr at ↦ subst (λ n. IsMadeLink functions new n l) (sym at.0) (subst (λ (m : Link). IsMadeLink functions new (length old) m) (sym at.1) new_made)
     ];
     outermost = child_kept old new 0 last pushed_kept p.made.outermost;
   }
@@ -194,7 +194,7 @@ with_child functions links last i child link made is of =
             same_Some l (record link { child = child })
             (sym there ∙ (ap (λ n. slice_get new n) same ∙ get_set links i link (record link { child = child }) is))
             in
-            subst (λ n. IsMade functions new n l) (sym same) (subst (λ (m : Link). IsMade functions new i m) (sym l_is)
+            subst (λ n. IsMadeLink functions new n l) (sym same) (subst (λ (m : Link). IsMadeLink functions new i m) (sym l_is)
             (is_made_kept functions links new i child link kept
             (let w = slice_get_within links i link is in omega (arith, w)) (made.each i link is)
             (child_kept links new (suc i) child kept of)))

@@ -15,19 +15,20 @@ use Rattle.dwarf_source_frames.specs.UnitLines.{LinesRecord}
 use Rattle.dwarf_source_frames.specs.declared.frame.SourceLocation.{SourceLocation}
 use Rattle.dwarf_lines.specs.declared.registers.Row.{Row}
 
--- a link: the name of a function, the place of the call that it is, and the number of the link that calls it, from 1 on,
+-- a link: the name of a function, the source location of its call, and the number of the link that calls it, from 1 on,
 -- or 0
 pub record LinkRecord : Type 0 where
   pub name : Option (List ℕ)
   pub call : SourceLocation
   pub caller : ℕ
 
--- the link of a number, from 1 on
+-- the link with a number, from 1 on
 abbrev pub link_at : List LinkRecord → ℕ → Option LinkRecord
 link_at links zero = None
 link_at links (suc index) = slice_get links index
 
--- the number is that of entries, the innermost first, each called by the next one; 0 has none
+-- the number is that of the link of these entries, the innermost first, each called by the next one; 0 is that of no
+-- entries
 abbrev pub AreEntriesOfLink :
     DebugSectionsRecord → UnitRecord → List LinkRecord → ℕ → List EntryRecord → Type 0
 AreEntriesOfLink sections unit links number [] = number ≡ 0
@@ -36,26 +37,26 @@ AreEntriesOfLink sections unit links number (e ∷ es) =
     × IsName sections (record { unit = unit; entry = e }) link.name × (link.call ≡ location_of_call e)
     × AreEntriesOfLink sections unit links link.caller es
 
--- the link of a number has the calls of the chain of an address, among some entries of a unit
+-- the link with a number has the calls of the chain of an address, among some entries of a unit
 pub record IsLinkAmong (sections : DebugSectionsRecord) (unit : UnitRecord) (scopes : List ScopeRecord)
     (links : List LinkRecord) (address number : ℕ) : Type 0 where
   pub chain : List EntryRecord
   pub contain : IsChain address scopes chain
   pub are_entries : AreEntriesOfLink sections unit links number (calls_of (reverse chain))
 
--- among all entries
+-- the link with a number has the calls of the chain of an address, among all entries of a unit
 abbrev pub IsLinkOf : DebugSectionsRecord → UnitRecord → List LinkRecord → ℕ → ℕ → Type 0
 IsLinkOf sections unit links address number = IsLinkAmong sections unit (scopes_of sections unit) links address number
 
--- where ranges begin and end
+-- the addresses at which ranges begin and end
 abbrev pub ends_of_ranges : List CodeRange → List ℕ
 ends_of_ranges ranges = flat_map (λ range. range.low ∷ range.high ∷ []) ranges
 
--- each link is called by one before it, or by none
+-- each link is called by an earlier link, or by none
 abbrev pub AreCallersBefore : List LinkRecord → Type 0
 AreCallersBefore links = (i : ℕ) (link : LinkRecord) → slice_get links i ≡ Some link → link.caller ≤ i
 
--- for each of some addresses the number of its link, among some entries of a unit
+-- each of the addresses has the number of its link, among some entries of a unit
 pub record AreLinksAmong (sections : DebugSectionsRecord) (unit : UnitRecord) (scopes : List ScopeRecord)
     (links : List LinkRecord) (addresses numbers : List ℕ) : Type 0 where
   pub count : length numbers ≡ length addresses
@@ -63,13 +64,13 @@ pub record AreLinksAmong (sections : DebugSectionsRecord) (unit : UnitRecord) (s
       → IsLinkAmong sections unit scopes links (slice_index addresses i) (slice_index numbers i)
   pub callers : AreCallersBefore links
 
--- among all entries
+-- each of the addresses has the number of its link, among all entries of a unit
 abbrev pub AreLinksOf : DebugSectionsRecord → UnitRecord → List LinkRecord → List ℕ → List ℕ → Type 0
 AreLinksOf sections unit links addresses numbers =
     AreLinksAmong sections unit (scopes_of sections unit) links addresses numbers
 
 -- a step at exactly the addresses at which the ranges of functions begin or end, ascending, each with the number of the
--- link of the addresses from there on up to the next one
+-- link of the addresses from there up to the next step
 pub record AreLinkSteps (sections : DebugSectionsRecord) (unit : UnitRecord) (links : List LinkRecord)
     (starts numbers : List ℕ) : Type 0 where
   pub rising : AreRising starts
@@ -79,13 +80,13 @@ pub record AreLinkSteps (sections : DebugSectionsRecord) (unit : UnitRecord) (li
   pub each : (a : ℕ) → IsLinkOf sections unit links a (at_step 0 starts numbers a)
   pub callers : AreCallersBefore links
 
--- the frame of a name at a place
+-- the frame with a name at a source location
 abbrev pub frame_at_place : LinesRecord → Option (List ℕ) → SourceLocation → FrameRecord
 frame_at_place lines name place =
     record { name = name; path = path_in lines place.file; line = place.line; column = place.column }
 
--- the frames of the link of a number, the innermost first, which is at a place; each further one is at the call that
--- the one before it is
+-- the frames of the link with a number, the innermost first, which has the given source location; each other frame has
+-- the location of the call of the frame before it
 abbrev pub AreFramesOfLink : LinesRecord → List LinkRecord → SourceLocation → ℕ → List FrameRecord → Type 0
 AreFramesOfLink lines links place number [] = number ≡ 0
 AreFramesOfLink lines links place number (f ∷ fs) =
@@ -93,7 +94,7 @@ AreFramesOfLink lines links place number (f ∷ fs) =
     × (f ≡ frame_at_place lines link.name place)
     × AreFramesOfLink lines links link.call link.caller fs
 
--- the frames of a row and of the link of a number: without a link there is one without a name, if there is a row
+-- the frames of a row and of the link with a number: if there is no link, a row has one frame without a name
 abbrev pub AreFramesOfRowAndLink : LinesRecord → List LinkRecord → Option Row → ℕ → List FrameRecord → Type 0
 AreFramesOfRowAndLink lines links None zero frames = frames ≡ []
 AreFramesOfRowAndLink lines links (Some row) zero frames =

@@ -3,7 +3,7 @@ use Rattle.std.specs.Prelude.{ℕ, List, ◌≡◌, length, slice_get, Option, S
 use Rattle.dwarf_functions.specs.LinkViews.{link_view}
 use Rattle.dwarf_functions.specs.declared.links.Link.{Link}
 
--- the names of links are those of their numbers among so many names, so links of one number have one name
+-- the names of links are those of their numbers among `count` names, so links with one number have one name
 pub record AreNamesNumbered (count : ℕ) (links : List Link) : Type 0 where
   pub names : List (Option (List ℕ))
   pub count_is : length names ≡ count

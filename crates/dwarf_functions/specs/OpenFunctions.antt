@@ -1,4 +1,5 @@
--- Functions in which further ones may be nested: the words of inner functions. No contract of a public one has them.
+-- Functions in which further ones may be nested: definitions of inner functions. No contract of a public function uses
+-- them.
 use Rattle.std.specs.Prelude.{ℕ, List, [], ◌∷◌, ◌++◌, ◌≡◌, ◌==◌, ◌+◌, ◌-◌, ◌<◌, ◌≤◌, length, slice_get}
 use Rattle.std.specs.Prelude.{IfSome, if◌then◌else◌}
 use Rattle.std.specs.List.{All, list_any}
@@ -10,11 +11,11 @@ use Rattle.dwarf_functions.specs.UnitFunctions.{IsFunction}
 use Rattle.dwarf_functions.specs.declared.functions.Function.{Function}
 use Rattle.dwarf_functions.specs.declared.functions.Open.{Open}
 
--- the indexes of open functions are among so many
+-- the indexes of open functions are below `count`
 abbrev pub AreAmong : ℕ → List Open → Type 0
 AreAmong count opened = All (λ o. o.index < count) opened
 
--- a function of an index, after some functions were closed that end before another one
+-- the function at an index, after some open functions were closed; a closed one ends at `end`
 abbrev pub closed_at : ℕ → List Open → ℕ → Function → Function
 closed_at end closed index f = if list_any (λ o. o.index == index) closed then record f { end = end } else f
 
@@ -27,7 +28,7 @@ pub record Closes (depth : ℕ) (opened left : List Open) (before after : List F
   pub count : length after ≡ length before
   pub each : (i : ℕ) → slice_get after i ≡ option_map (closed_at (length before) closed i) (slice_get before i)
 
--- a function more, that is open, if the entry has ranges
+-- if the entry has ranges, one more function, which is open
 pub record Adds (sections : DebugSectionsRecord) (unit : UnitRecord) (scope : ScopeRecord) (ranges_end : ℕ)
     (opened next : List Open) (before after : List Function) : Type 0 where
   pub without : scope.ranges ≡ [] → (after ≡ before) × (next ≡ opened)
@@ -37,7 +38,7 @@ pub record Adds (sections : DebugSectionsRecord) (unit : UnitRecord) (scope : Sc
       (record { entry = scope.entry; ranges = scope.ranges; end = length before + 1 }) f
       × (next ≡ opened ++ record { depth = scope.depth; index = length before } ∷ [])
 
--- an entry is taken: the functions in which it does not stand are closed, and it is added
+-- the entry is processed: the functions in which it is not nested are closed, and it is added
 pub record Takes (sections : DebugSectionsRecord) (unit : UnitRecord) (scope : ScopeRecord) (ranges_end : ℕ)
     (opened next : List Open) (before after : List Function) : Type 0 where
   pub left : List Open

@@ -1,10 +1,11 @@
--- Starts that rows cover, one row after another: the words of inner functions. No contract of a public one has them.
+-- Starts that rows cover, one row after another: definitions of inner functions. No contract of a public function uses
+-- them.
 use Rattle.std.specs.Prelude.{ℕ, List, ◌≡◌, ◌≢◌, ◌+◌, ◌<◌, ◌≤◌, length, slice_index, slice_index_or, Option, Some, None}
 use Rattle.dwarf_lines.specs.Inner.{covering_with}
 use Rattle.dwarf_lines.specs.declared.registers.Row.{Row}
 use Rattle.dwarf_asked_addresses.specs.Waiting.{Waits}
 
--- the starts that wait from one index on before another one get a row, and wait no longer
+-- the waiting starts from index `first` on, before index `end`, get a row, and no longer wait
 pub record Covers (first end : ℕ) (row : Row) (old new : List ℕ) (before after : List (Option Row)) : Type 0 where
   pub count : length after ≡ length before
   pub nexts : length new ≡ length old
@@ -18,7 +19,8 @@ pub record Covers (first end : ℕ) (row : Row) (old new : List ℕ) (before aft
   pub done : (i : ℕ) → i < length before → slice_index old i ≢ i
       → slice_index_or after i None ≡ slice_index_or before i None
 
--- each start waits for the first row that covers it, of one before and those that are left, or has the first of all
+-- each start waits for the first row that covers it, of the row before and those that are left, or has the first of all
+-- rows
 pub record AreKnown (starts next : List ℕ) (rows : List (Option Row)) (before : Option Row) (left all : List Row)
     : Type 0 where
   pub count : length rows ≡ length starts

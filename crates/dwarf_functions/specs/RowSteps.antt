@@ -6,8 +6,8 @@ use Rattle.dwarf_lines.specs.declared.registers.Row.{Row}
 use Rattle.dwarf_functions.specs.AddressSteps.{at_step}
 use Rattle.dwarf_asked_addresses.specs.Rising.{AreRising}
 
--- a step at exactly the addresses of rows, ascending, each with the row that covers the addresses from there on up to
--- the next one, or none
+-- a step at exactly the addresses of rows, ascending, each with the row that covers the addresses from there up to the
+-- next step, or none
 pub record AreRowSteps (all : List Row) (starts : List ℕ) (rows : List (Option Row)) : Type 0 where
   pub rising : AreRising starts
   pub same : (a : ℕ) → Contains starts a ↔ Contains (map (λ row. row.registers.address) all) a

@@ -1,5 +1,5 @@
--- Starts that get the links of the functions that contain them, one function after another: the words of inner
--- functions. No contract of a public one has them.
+-- Starts, to which the links of the functions that contain them are assigned, one function after another: definitions
+-- of inner functions. No contract of a public function uses them.
 use Rattle.std.specs.Prelude.{ℕ, List, [], ◌∷◌, ◌++◌, ◌≡◌, ◌≢◌, ◌≤◌, ◌<◌, ◌+◌, ◌-◌, ◌⊎◌, length, drop, flat_map}
 use Rattle.std.specs.Prelude.{reverse}
 use Rattle.std.specs.Prelude.{slice_get, slice_index, take, Option, Some, None}
@@ -12,13 +12,13 @@ use Rattle.dwarf_functions.specs.declared.functions.Function.{Function}
 use Rattle.dwarf_asked_addresses.specs.Rising.{AreRising}
 use Rattle.dwarf_asked_addresses.specs.Waiting.{Waits}
 
--- ranges of functions, one after another, the last of each before those of the next one
+-- the ranges of functions, one after another: the last range of each function precedes those of the next function
 pub record AreParts (functions : List Function) (ranges : List CodeRange) : Type 0 where
   pub within : (i : ℕ) (f : Function) → slice_get functions i ≡ Some f → f.ranges_end ≤ length ranges
   pub rise : (i : ℕ) (f g : Function) → slice_get functions i ≡ Some f → slice_get functions (i + 1) ≡ Some g
       → f.ranges_end ≤ g.ranges_end
 
--- functions and their ranges are those of records
+-- functions and their ranges are those of these records
 pub record AreOf (of : List FunctionRecord) (functions : List Function) (ranges : List CodeRange) : Type 0 where
   pub count : length functions ≡ length of
   pub end : (i : ℕ) (r : FunctionRecord) (f : Function) → slice_get of i ≡ Some r → slice_get functions i ≡ Some f
@@ -27,7 +27,7 @@ pub record AreOf (of : List FunctionRecord) (functions : List Function) (ranges 
   pub ends : (i : ℕ) (f : Function) → slice_get functions i ≡ Some f
       → f.ranges_end ≡ length (flat_map (λ r. r.ranges) (take (i + 1) of))
 
--- each start has the number of a link, or 0; one that waits has fewer links than an address may have
+-- each start has the number of a link, or 0; a waiting start has fewer links than an address may have
 pub record IsTaking (t : Taking) : Type 0 where
   pub made : AreMade t.making.all.now.functions.items t.making.links.items t.making.last
   pub rising : AreRising t.starts.items
@@ -37,12 +37,13 @@ pub record IsTaking (t : Taking) : Type 0 where
   pub few : (i : ℕ) → i < length t.starts.items → Waits t.waiting.next.items i
       → count_at t.making.links.items (slice_index t.numbers.items i) < 256
 
--- the starts and the functions stay
+-- the starts and the functions are unchanged
 pub record HasSame (old new : Taking) : Type 0 where
   pub starts : new.starts ≡ old.starts
   pub all : new.making.all ≡ old.making.all
 
--- the start of an index gets the link of a function in its own one, and waits unless it has as many as it may have
+-- the start at an index gets the link of a function in its own link, and waits unless it has the largest number of
+-- links
 pub record Extends (index at : ℕ) (old new : Taking) : Type 0 where
   pub kept : AreKept old.making.links.items new.making.links.items
   pub link : IsLinkIn new.making.links.items (slice_index old.numbers.items at) index
@@ -56,14 +57,14 @@ pub record Extends (index at : ℕ) (old new : Taking) : Type 0 where
   pub full : (Waits new.waiting.next.items at → ⊥)
       → count_at new.making.links.items (slice_index new.numbers.items at) ≡ 256
 
--- the link of a number has some functions, the innermost first, and 0 has none
+-- the link with a number has these functions, the innermost first, and 0 has none
 abbrev pub AreFunctionsOfLink : List FunctionRecord → List Link → ℕ → List FunctionRecord → Type 0
 AreFunctionsOfLink of links number [] = number ≡ 0
 AreFunctionsOfLink of links number (f ∷ fs) =
     (link : Link) × (made_at links number ≡ Some link) × (link.outer < number)
     × (slice_get of link.function ≡ Some f) × AreFunctionsOfLink of links link.outer fs
 
--- the end of the innermost of some functions
+-- the end of the innermost of these functions
 abbrev pub end_of : List FunctionRecord → Option ℕ
 end_of [] = None
 end_of (f ∷ fs) = Some f.end
@@ -72,7 +73,8 @@ end_of (f ∷ fs) = Some f.end
 abbrev pub chain_in : List FunctionRecord → ℕ → List FunctionRecord
 chain_in of address = functions_after 256 address None 0 of
 
--- the link of a number has the functions before an index of the chain of an address; if that does not wait, it has all
+-- the link with a number has the functions of the chain of an address that are before an index; if the address does not
+-- wait, it has all
 pub record IsUpTo (of : List FunctionRecord) (links : List Link) (waits : Type 0) (address number index : ℕ)
     : Type 0 where
   pub chain : List FunctionRecord
@@ -82,7 +84,7 @@ pub record IsUpTo (of : List FunctionRecord) (links : List Link) (waits : Type 0
       ++ functions_after (256 - length chain) address (end_of chain) index (drop index of) ≡ chain_in of address
   pub all : (waits → ⊥) → reverse chain ≡ chain_in of address
 
--- it has those up to an index, and if it waits, that of the index is the last
+-- the link has the functions up to and with an index; if the address waits, the function at the index is the last
 pub record HasTaken (of : List FunctionRecord) (links : List Link) (waits : Type 0) (address number index : ℕ)
     : Type 0 where
   pub up_to : IsUpTo of links waits address number (index + 1)
@@ -94,17 +96,17 @@ HasBefore of t index at =
     IsUpTo of t.making.links.items (Waits t.waiting.next.items at) (slice_index t.starts.items at)
     (slice_index t.numbers.items at) index
 
--- a start has those up to an index, whose function contains it
+-- a start has the functions up to and with an index, whose function contains it
 abbrev pub HasIt : List FunctionRecord → Taking → ℕ → ℕ → Type 0
 HasIt of t index at =
     HasTaken of t.making.links.items (Waits t.waiting.next.items at) (slice_index t.starts.items at)
     (slice_index t.numbers.items at) index
 
--- a start has those before an index, or also that of the index
+-- a start has the functions before an index, with or without the function at the index
 abbrev pub HasEither : List FunctionRecord → Taking → ℕ → ℕ → Type 0
 HasEither of t index at = HasBefore of t index at ⊎ HasIt of t index at
 
--- the starts of some indexes get a function, if they do not have it
+-- the starts at some indexes get a function, if they do not have it
 pub record Takes (of : List FunctionRecord) (index : ℕ) (here : ℕ → Type 0) (old new : Taking) : Type 0 where
   pub either : (i : ℕ) → i < length old.starts.items → HasEither of old index i → HasEither of new index i
   pub still : (i : ℕ) → i < length old.starts.items → HasIt of old index i → HasIt of new index i

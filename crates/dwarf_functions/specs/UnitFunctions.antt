@@ -12,13 +12,13 @@ use Rattle.dwarf_source_frames.specs.Names.{IsName}
 use Rattle.dwarf_source_frames.specs.Scopes.{ScopeRecord, is_subprogram}
 use Rattle.dwarf_functions.specs.declared.functions.Function.{Function}
 
--- a function: its entry, its ranges, and how many functions there are up to the last that stands in it
+-- a function: its entry, its ranges, and the number of functions up to the last that is nested in it
 pub record FunctionRecord : Type 0 where
   pub entry : EntryRecord
   pub ranges : List CodeRange
   pub end : ℕ
 
--- how many of scopes have ranges, up to the first that is not deeper than another one
+-- the number of scopes with ranges, up to the first scope that is not deeper than a given depth
 abbrev pub count_within : ℕ → List ScopeRecord → ℕ
 count_within depth [] = 0
 count_within depth (scope ∷ scopes) =
@@ -26,7 +26,7 @@ count_within depth (scope ∷ scopes) =
     else if nat_le 1 (length scope.ranges) then suc (count_within depth scopes)
     else count_within depth scopes
 
--- the functions among scopes, before which there are so many
+-- the functions among scopes, if `before` functions precede them
 unfoldable pub functions_from : ℕ → List ScopeRecord → List FunctionRecord
 functions_from before [] = []
 functions_from before (scope ∷ scopes) =
@@ -38,13 +38,13 @@ functions_from before (scope ∷ scopes) =
     } ∷ functions_from (before + 1) scopes
     else functions_from before scopes
 
--- whether a function stands no longer in another one, if there is one
+-- whether a function is no longer nested in another one, if there is one
 abbrev pub is_past : Option ℕ → ℕ → Bool
 is_past None index = false
 is_past (Some end) index = nat_le end index
 
--- the functions of the chain of an address that are left among some from an index on, up to so many, if one is open
--- before them up to an end
+-- the functions of the chain of an address among the functions from an index on, at most `room` of them; `end` is the
+-- end of the open function before them, if there is one
 unfoldable pub functions_after : ℕ → ℕ → Option ℕ → ℕ → List FunctionRecord → List FunctionRecord
 functions_after room a end index [] = []
 functions_after zero a end index (f ∷ fs) = []
@@ -53,7 +53,8 @@ functions_after (suc room) a end index (f ∷ fs) =
     else if in_ranges a f.ranges then f ∷ functions_after room a (Some f.end) (index + 1) fs
     else functions_after (suc room) a end (index + 1) fs
 
--- a function as it is kept: its name and call, whether it is a subprogram, up to which index others stand in it, and where its ranges end
+-- a function as it is kept: its name and call, whether it is a subprogram, the index at which its nested functions end,
+-- and the end of its ranges
 pub record IsFunction (sections : DebugSectionsRecord) (unit : UnitRecord) (of : FunctionRecord) (function : Function)
     : Type 0 where
   pub name : IsName sections (record { unit = unit; entry = of.entry }) (option_map (λ n. n.now) function.name)
@@ -61,7 +62,7 @@ pub record IsFunction (sections : DebugSectionsRecord) (unit : UnitRecord) (of :
   pub is_subprogram : function.is_subprogram ≡ is_subprogram of.entry
   pub end : function.end ≡ of.end
 
--- the functions of entries of a unit with their ranges, one after another
+-- the functions of a unit's entries with their ranges, one after another
 pub record AreFunctions (sections : DebugSectionsRecord) (unit : UnitRecord) (scopes : List ScopeRecord)
     (functions : List Function) (ranges : List CodeRange) : Type 0 where
   pub count : length functions ≡ length (functions_from 0 scopes)

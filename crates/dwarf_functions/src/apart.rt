@@ -1,4 +1,4 @@
-//! The ranges of a function, apart: each of their addresses in one of them.
+//! The disjoint ranges of a function: each address is in one of them.
 
 ghost use Rattle.std.specs.Prelude.{◌≡◌, ℕ, IfOk};
 ghost use Rattle.std.specs.List.Sorted.{IsNonDecreasingBy};
@@ -8,7 +8,7 @@ ghost use Rattle.dwarf_functions.specs.Apart.{AreApart};
 use dwarf_ranges::CodeRange;
 use memory::{Heap, NoMemory};
 
-/// Some ranges, in the order of their first addresses.
+/// These ranges, in the order of their first addresses.
 fn in_order(heap: Heap, ranges: &[CodeRange]) -> Result<Vec<CodeRange, Heap>, NoMemory>
     ensures order { IfOk result (λ sorted. IsNonDecreasingBy (λ range. range.low) sorted.items) }
     ensures same { IfOk result (λ sorted. (a : ℕ) → in_ranges a sorted.items ≡ in_ranges a ranges.now) }
@@ -18,8 +18,8 @@ fn in_order(heap: Heap, ranges: &[CodeRange]) -> Result<Vec<CodeRange, Heap>, No
     Ok(sorted)
 }
 
-/// Ranges that have the addresses of some ranges and are apart. It takes the time of a sort of them, and the memory of
-/// up to 64 bytes for each.
+/// Disjoint ranges with the same addresses as these ranges. The time is that of a sort of them, and the memory is up to
+/// 64 bytes for each.
 pub fn apart_of(heap: &Heap, ranges: &[CodeRange]) -> Result<Vec<CodeRange, Heap>, NoMemory>
     ensures same { IfOk result (λ apart. (a : ℕ) → in_ranges a apart.items ≡ in_ranges a ranges.now) }
     ensures apart { IfOk result (λ apart. AreApart apart.items) }

@@ -27,44 +27,45 @@ use memory::{Heap, NoMemory};
 /// A function of a unit.
 #[derive(Clone, Copy)]
 pub struct Function<'a> {
-    /// Its name.
+    /// The name of the function.
     pub name: Option<&'a [u8]>,
-    /// The index of a function that has the same name: functions of one number have one name.
+    /// The index of a function with the same name: functions with one number have one name.
     pub name_number: usize,
-    /// The place of the call that it is.
+    /// The source location of the call, if the function is inlined.
     pub call: SourceLocation,
-    /// Whether it is a subprogram, which no function that it stands in calls.
+    /// Whether it is a subprogram, which is not called by the function in which it is nested.
     pub is_subprogram: bool,
-    /// How many functions there are up to the last that stands in it.
+    /// The number of functions up to the last that is nested in it.
     pub end: usize,
-    /// How many ranges there are up to its last.
+    /// The number of ranges up to its last.
     pub ranges_end: usize,
 }
 
-/// A name, and the index of a function that has it.
+/// A name, and the index of a function with this name.
 #[derive(Clone, Copy)]
 struct Named<'a> {
     name: Option<&'a [u8]>,
     number: usize,
 }
 
-/// A function in which further ones may stand: its depth and its index.
+/// A function in which further functions may be nested: its depth and its index.
 #[derive(Clone, Copy)]
 pub(crate) struct Open {
     pub depth: usize,
     pub index: usize,
 }
 
-/// The functions of a unit that have ranges, or ranges that have asked addresses, in the order of their entries.
+/// The functions of a unit that have ranges, or those that have ranges with asked addresses, in the order of their
+/// entries.
 #[derive(Drop)]
 pub struct Functions<'a> {
     pub functions: Vec<Function<'a>, Heap>,
     pub ranges: Vec<CodeRange, Heap>,
-    /// Those that have the names of entries that others lead to.
+    /// Functions with the names of entries that other entries refer to.
     origins: Origins,
 }
 
-/// Whether a range has one of the addresses that are asked, which ascend, if not all are.
+/// Whether a range contains one of the asked addresses, which ascend; true if all addresses are asked.
 fn has_asked(asked: Option<&[u64]>, range: CodeRange) -> bool
     requires { IfSome asked (λ all. AreRising all.now) }
     ensures { result ≡ has_asked (option_map (λ all. all.now) asked.entry) range }
@@ -79,7 +80,7 @@ fn has_asked(asked: Option<&[u64]>, range: CodeRange) -> bool
     asked[first] < range.high
 }
 
-/// Adds the ranges that have an asked address.
+/// Adds the ranges that contain an asked address.
 fn push_ranges(
     all: &mut Vec<CodeRange, Heap>,
     ranges: Ranges<'_>,
@@ -98,7 +99,7 @@ fn push_ranges(
 }
 
 impl<'a> Functions<'a> {
-    /// Closes the functions in which an entry of a depth does not stand.
+    /// Closes the functions in which an entry at a depth is not nested.
     fn close(&mut self, opened: &mut Vec<Open, Heap>, depth: usize)
         requires { AreAmong (length self.old.functions.items) opened.old.items }
         ensures ranges { self.new.ranges ≡ self.old.ranges }
@@ -115,7 +116,7 @@ impl<'a> Functions<'a> {
         opened.truncate(left);
     }
 
-    /// The name of an entry, which may be that of the entry at a place.
+    /// The name of an entry, which may be that of the entry at an offset of `__debug_info`.
     fn named(
         &self,
         info: &DebugInfo<'a>,
@@ -145,7 +146,7 @@ impl<'a> Functions<'a> {
         Named { name, number }
     }
 
-    /// Adds an entry that is of a function, if it has ranges that have asked addresses.
+    /// Adds a function entry, if it has ranges with asked addresses.
     fn push_entry(
         &mut self,
         info: &DebugInfo<'a>,
@@ -190,8 +191,8 @@ impl<'a> Functions<'a> {
         Ok(())
     }
 
-    /// Adds an entry of a depth, if it is of a function and has ranges that have asked addresses. Of its list, `left`
-    /// entries count at most, and `left` is then how many more may count.
+    /// Adds an entry at a depth, if it is a function and has ranges with asked addresses. At most `left` entries of its
+    /// range list count; `left` is reduced by those that were used.
     fn take(
         &mut self,
         info: &DebugInfo<'a>,
@@ -228,9 +229,9 @@ impl<'a> Functions<'a> {
         self.push_entry(info, unit, asked, opened, depth, &entry, own)
     }
 
-    /// The functions of a unit that have ranges, or those with the ranges that have one of the asked addresses, which
-    /// ascend. It takes the time of the unit, which is read once, and of their names, and the memory of 100 bytes for
-    /// each, of 16 for each of their ranges, and of 24 KiB for the places that have names.
+    /// The functions of a unit that have ranges, or those with ranges that contain one of the asked addresses, which
+    /// ascend. The time is that of reading the unit once, and of their names; the memory is 100 bytes for each
+    /// function, 16 for each of their ranges, and 24 KiB for the names by offset.
     pub fn read(
         heap: Heap,
         info: &DebugInfo<'a>,

@@ -23,39 +23,39 @@ use dwarf_ranges::CodeRange;
 use dwarf_source_frames::{DebugInfo, DebugUnit, SourceLocation};
 use memory::{Heap, NoMemory};
 
-/// A function in the link of the one that calls it.
+/// A function in the link of the function that calls it.
 #[derive(Clone, Copy)]
 pub struct Link<'a> {
     /// The name of the function.
     pub name: Option<&'a [u8]>,
-    /// The number of its name: links of one number have one name.
+    /// The number of its name: links with one number have one name.
     pub name_number: usize,
-    /// The place of the call that it is.
+    /// The source location of the call, if the function is inlined.
     pub call: SourceLocation,
-    /// The number of the link that calls it, from 1 on, or 0: the one that it stands in, unless it is a subprogram.
+    /// The number of the calling link, from 1 on, or 0: the link in which it is nested, unless it is a subprogram.
     pub caller: usize,
-    /// The number of the link that it stands in, from 1 on, or 0.
+    /// The number of the link in which it is nested, from 1 on, or 0.
     pub(crate) outer: usize,
     /// The index of the function.
     pub(crate) function: usize,
-    /// The number of the last link that stands in it, or 0.
+    /// The number of the last link that is nested in it, or 0.
     pub(crate) child: usize,
-    /// How many links there are from it on to the outermost.
+    /// The number of links from it to the outermost.
     pub(crate) count: usize,
 }
 
-/// The links of a unit: from each start on, up to the next one, addresses have the link of a number, from 1 on, or none
-/// (0).
+/// The links of a unit: the addresses from each start on, up to the next start, have the link with a number, from 1 on,
+/// or none (0).
 #[derive(Drop)]
 pub struct Links<'a> {
     pub links: Vec<Link<'a>, Heap>,
     pub starts: Vec<u64, Heap>,
     pub numbers: Vec<usize, Heap>,
-    /// The numbers of names are below it.
+    /// An upper bound: all numbers of names are below it.
     pub name_count: usize,
 }
 
-/// Where ranges begin and end, ascending, each once.
+/// The addresses at which ranges begin and end, ascending, each once.
 fn starts_of(heap: Heap, ranges: &[CodeRange]) -> Result<Vec<u64, Heap>, NoMemory>
     ensures rising { IfOk result (λ starts. AreRising starts.items) }
     ensures same { IfOk result (λ starts. (a : ℕ) → Contains starts.items a ↔ Contains (ends_of_ranges ranges.now) a) }
@@ -69,7 +69,7 @@ fn starts_of(heap: Heap, ranges: &[CodeRange]) -> Result<Vec<u64, Heap>, NoMemor
 }
 
 impl<'a> Links<'a> {
-    /// The links of some functions at starts, which ascend.
+    /// The links of these functions at starts, which ascend.
     fn of(heap: Heap, all: &Functions<'a>, starts: Vec<u64, Heap>) -> Result<Links<'a>, NoMemory>
         requires parts { AreParts all.now.functions.items all.now.ranges.items }
         requires numbered { AreNumbered all.now.functions.items }
@@ -103,10 +103,9 @@ impl<'a> Links<'a> {
         })
     }
 
-    /// The links of a unit, of whose functions and ranges it takes the memory. An address that lies in ranges of
-    /// functions that stand in each other costs its link once: it takes the time of the unit, which is read once, of
-    /// sorts of each function's ranges and of where all begin and end, and of up to 256 functions for each of these
-    /// addresses.
+    /// The links of a unit. The memory is that of its functions and ranges. An address in ranges of nested functions
+    /// needs the memory of its link once. The time is that of reading the unit once, of sorts of each function's ranges
+    /// and of the addresses at which all ranges begin and end, and of up to 256 functions for each of these addresses.
     pub fn read(
         heap: Heap,
         info: &DebugInfo<'a>,
@@ -123,9 +122,9 @@ impl<'a> Links<'a> {
         Ok(links)
     }
 
-    /// The links of some addresses of a unit, which ascend: they are the starts, and no address between them is told
-    /// of. It takes the time of the unit, which is read once, and the memory of the addresses and of the functions that
-    /// contain one.
+    /// The links of some addresses of a unit, which ascend: they are the starts, and nothing is stated about addresses
+    /// between them. The time is that of reading the unit once; the memory is that of the addresses and of the
+    /// functions that contain one.
     pub fn at(
         heap: Heap,
         info: &DebugInfo<'a>,

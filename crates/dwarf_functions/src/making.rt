@@ -1,4 +1,4 @@
-//! Links that are being made.
+//! Links that are being built.
 
 ghost use Rattle.std.specs.Prelude.{◌≡◌, ◌≤◌, ◌<◌, ◌+◌, IfOk, OnOk, length};
 ghost use Rattle.dwarf_functions.specs.Making.{AreKept, AreMade, IsLinkIn, caller_of, child_at, count_at};
@@ -7,7 +7,7 @@ use crate::functions::{Function, Functions};
 use crate::links::Link;
 use memory::{Heap, NoMemory};
 
-/// Links that are being made: `last` is the number of the last one that stands in none, or 0.
+/// Links that are being built: `last` is the number of the last link that is nested in none, or 0.
 #[derive(Drop)]
 pub struct Making<'f, 'a> {
     pub all: &'f Functions<'a>,
@@ -15,7 +15,7 @@ pub struct Making<'f, 'a> {
     pub last: usize,
 }
 
-/// The number of the link that calls a function, which stands in the link of another number.
+/// The number of the link that calls a function, which is nested in the link `outer`.
 fn caller_of(function: Function<'_>, outer: usize) -> usize
     ensures { result ≡ caller_of function.entry outer }
 {
@@ -23,7 +23,7 @@ fn caller_of(function: Function<'_>, outer: usize) -> usize
 }
 
 impl<'f, 'a> Making<'f, 'a> {
-    /// The number of the last link that stands in one of a number, or in none.
+    /// The number of the last link that is nested in the link `outer`, or in none if that is 0.
     fn child_of(&self, outer: usize) -> usize
         requires { outer ≤ length self.now.links.items }
         ensures { result ≡ child_at self.now.links.items self.now.last outer }
@@ -34,7 +34,7 @@ impl<'f, 'a> Making<'f, 'a> {
         self.links[outer - 1].child
     }
 
-    /// How many links there are from one of a number on to the outermost.
+    /// The number of links from the one with this number to the outermost.
     pub fn count_of(&self, number: usize) -> usize
         requires { number ≤ length self.now.links.items }
         ensures { result ≡ count_at self.now.links.items number }
@@ -45,7 +45,7 @@ impl<'f, 'a> Making<'f, 'a> {
         self.links[number - 1].count
     }
 
-    /// Adds the link of a function in another link, and gives its number.
+    /// Adds the link of a function in another link, and returns its number.
     fn push(&mut self, index: usize, outer: usize) -> Result<usize, NoMemory>
         requires made { AreMade self.old.all.now.functions.items self.old.links.items self.old.last }
         requires index { index < length self.old.all.now.functions.items }
@@ -78,7 +78,7 @@ impl<'f, 'a> Making<'f, 'a> {
         Ok(number)
     }
 
-    /// The number of the link of a function in another link.
+    /// The number of the link of a function in another link. It is added if it is missing.
     pub fn link(&mut self, index: usize, outer: usize) -> Result<usize, NoMemory>
         requires made { AreMade self.old.all.now.functions.items self.old.links.items self.old.last }
         requires index { index < length self.old.all.now.functions.items }

@@ -1,4 +1,4 @@
-//! Functions that have the names of entries that others lead to, kept by place.
+//! Functions with the names of entries that other entries refer to, kept by offset.
 
 ghost use Rattle.std.specs.Prelude.{◌≡◌, ◌⊎◌, IfOk, IfSome, Some};
 ghost use Rattle.dwarf_entries.specs.EntryViews.{entry_view};
@@ -11,23 +11,23 @@ use dwarf_entries::{Attribute, Entry};
 use dwarf_source_frames::DebugUnit;
 use memory::{Heap, NoMemory};
 
-/// How many places are kept at most.
+/// The largest number of offsets to keep.
 const PLACES_MAX: u64 = 1024;
 
-/// The place of an entry, and the index of a function that has its name.
+/// The offset of an entry, and the index of a function with its name.
 #[derive(Clone, Copy)]
 pub(crate) struct Origin {
     pub place: u64,
     pub function: usize,
 }
 
-/// Functions that have the names of some entries, each under the remainder of the entry's place.
+/// Functions with the names of entries, each in the slot of the remainder of the entry's offset.
 #[derive(Drop)]
 pub(crate) struct Origins {
     slots: Vec<Option<Origin>, Heap>,
 }
 
-/// The place that an entry leads to by DW_AT_abstract_origin, and else by DW_AT_specification.
+/// The offset of the entry that an entry refers to by DW_AT_abstract_origin, else by DW_AT_specification.
 #[tactic(auto, unfolding(dwarf_source_frames::specs::Names::origin_place))]
 fn origin_place<'a>(unit: &DebugUnit<'a>, entry: &Entry<'a>) -> Option<u64>
     ensures { result ≡ origin_place (record { unit = unit_view unit.now; entry = entry_view entry.now }) }
@@ -39,7 +39,7 @@ fn origin_place<'a>(unit: &DebugUnit<'a>, entry: &Entry<'a>) -> Option<u64>
     unit.place_of(&value)
 }
 
-/// The place of an entry that has the name of another one, if that leads there and has no name itself.
+/// The offset of the entry that this one refers to, if this one has no name itself and so has the name of that entry.
 pub(crate) fn nameless_origin<'a>(unit: &DebugUnit<'a>, entry: &Entry<'a>) -> Option<u64>
     ensures { IfSome result (IsNamedAt (record { unit = unit_view unit.now; entry = entry_view entry.now })) }
 {
@@ -55,13 +55,13 @@ pub(crate) fn nameless_origin<'a>(unit: &DebugUnit<'a>, entry: &Entry<'a>) -> Op
     origin_place(unit, entry)
 }
 
-/// Where the function of a place is kept.
+/// The slot of an offset.
 fn slot_of(place: u64) -> usize {
     (place % PLACES_MAX) as usize
 }
 
 impl Origins {
-    /// None.
+    /// No functions. The error is `NoMemory`.
     pub fn new(heap: Heap) -> Result<Origins, NoMemory>
         ensures { IfOk result (λ all. (o : Origin) → IsKept all o → ⊥) }
     {
@@ -70,7 +70,7 @@ impl Origins {
         })
     }
 
-    /// The index of a function that has the name of the entry at a place, if that is kept.
+    /// The index of a function with the name of the entry at an offset; `None` if none is kept.
     pub fn get(&self, place: Option<u64>) -> Option<usize>
         ensures { IfSome result (λ function. (o : Origin) × IsKept self.now o × (place ≡ Some o.place)
             × (o.function ≡ function)) }
@@ -82,7 +82,7 @@ impl Origins {
         }
     }
 
-    /// Keeps the index of a function that has the name of the entry at a place, if there is one.
+    /// Keeps the index of a function with the name of the entry at an offset, if there is an offset.
     pub fn keep(&mut self, place: Option<u64>, function: usize)
         ensures { (o : Origin) → IsKept self.new o
             → IsKept self.old o ⊎ ((place ≡ Some o.place) × (o.function ≡ function)) }

@@ -15,7 +15,7 @@ use dwarf_lines::{Row, Rows};
 use dwarf_source_frames::UnitLines;
 use memory::{Heap, NoMemory};
 
-/// From each start on, up to the next one, addresses have a row, or none.
+/// The addresses from each start on, up to the next start, have a row, or none.
 #[derive(Drop)]
 pub struct RowSteps {
     pub starts: Vec<u64, Heap>,
@@ -34,7 +34,7 @@ fn push_addresses(starts: &mut Vec<u64, Heap>, rows: Rows<'_>) -> Result<(), NoM
 }
 
 impl RowSteps {
-    /// Whether a start is an address: then those before it are below that.
+    /// Whether the start at an index is an address; then all starts before it are below the address.
     #[tactic(auto, using(dwarf_asked_addresses::proofs::RisingLemmas::count_at))]
     fn is_at(&self, near: usize, address: u64) -> bool
         requires { AreRising self.now.starts.items }
@@ -43,7 +43,7 @@ impl RowSteps {
         near < self.starts.len() && self.starts[near] == address
     }
 
-    /// How many starts are below an address. It is `near`, or the one after it, mostly.
+    /// The number of starts below an address. It is mostly `near`, or one more.
     fn count_below(&self, address: u64, near: usize) -> usize
         requires { AreRising self.now.starts.items }
         ensures { IsCountBelow self.now.starts.items address result }
@@ -57,7 +57,7 @@ impl RowSteps {
         count_below(&self.starts, address)
     }
 
-    /// A row covers the starts that wait, from one on, before another one.
+    /// Assigns a row to the waiting starts from index `first` on, before index `end`.
     fn cover(&mut self, waiting: &mut Waiting, first: usize, end: usize, row: Row)
         requires count { length waiting.old.next.items ≡ length self.old.rows.items + 1 }
         requires first { first ≤ end }
@@ -74,7 +74,7 @@ impl RowSteps {
         }
     }
 
-    /// A row covers the starts that wait, from one on, before another one, unless it ends a sequence.
+    /// Assigns a row to the waiting starts from index `first` on, before index `end`, unless the row ends a sequence.
     fn cover_unless(&mut self, waiting: &mut Waiting, first: usize, end: usize, row: Row)
         requires count { length waiting.old.next.items ≡ length self.old.rows.items + 1 }
         requires end { end ≤ length self.old.rows.items }
@@ -91,7 +91,7 @@ impl RowSteps {
         }
     }
 
-    /// Each of the rows covers starts that none before it covers.
+    /// Assigns each row to the starts that it is the first to cover.
     fn cover_all(&mut self, waiting: &mut Waiting, rows: Rows<'_>)
         requires rising { AreRising self.old.starts.items }
         requires known { AreKnown self.old.starts.items waiting.old.next.items self.old.rows.items None rows rows }
@@ -111,7 +111,7 @@ impl RowSteps {
         }
     }
 
-    /// The rows that cover starts, which ascend.
+    /// The rows that cover these starts, which ascend.
     fn covering(heap: Heap, starts: Vec<u64, Heap>, rows: Rows<'_>) -> Result<RowSteps, NoMemory>
         requires { AreRising starts.items }
         ensures starts { IfOk result (λ steps. steps.starts.items ≡ starts.items) }
@@ -127,7 +127,7 @@ impl RowSteps {
         Ok(steps)
     }
 
-    /// Those of rows, which are given twice.
+    /// The steps of rows, which are passed twice.
     fn of_rows(heap: Heap, rows: Rows<'_>, again: Rows<'_>) -> Result<RowSteps, NoMemory>
         requires { again ≡ rows }
         ensures { IfOk result (λ steps. AreRowSteps rows.entry steps.starts.items steps.rows.items) }
@@ -139,7 +139,7 @@ impl RowSteps {
         Ok(steps)
     }
 
-    /// Those of no rows.
+    /// The steps of no rows.
     pub fn none(heap: Heap) -> RowSteps
         ensures { AreRowSteps [] result.starts.items result.rows.items }
     {
@@ -149,8 +149,8 @@ impl RowSteps {
         }
     }
 
-    /// Those of the program of a unit, which is run twice. It takes the time of a sort of their addresses, and the
-    /// memory of 64 bytes for each of these.
+    /// The steps of a unit's program, which is run twice. The time is that of a sort of its addresses, and the memory
+    /// is 64 bytes for each of these.
     #[tactic(auto, unfolding(dwarf_source_frames::specs::AddressFrames::rows_of))]
     pub fn of(heap: Heap, lines: &UnitLines<'_>) -> Result<RowSteps, NoMemory>
         requires { IfSome lines.now.program (λ p. 0 < p.header.line_range) }
@@ -163,7 +163,7 @@ impl RowSteps {
         }
     }
 
-    /// Those of rows at some addresses, which ascend.
+    /// The steps of rows at some addresses, which ascend.
     fn of_rows_at(heap: Heap, rows: Rows<'_>, addresses: &[u64]) -> Result<RowSteps, NoMemory>
         requires { AreRising addresses.now }
         ensures { IfOk result (λ steps. AreCovering rows.entry addresses.now steps.rows.items) }
@@ -173,7 +173,7 @@ impl RowSteps {
         Ok(steps)
     }
 
-    /// Those of no rows at some addresses.
+    /// The steps of no rows at some addresses.
     fn none_at(heap: Heap, addresses: &[u64]) -> Result<RowSteps, NoMemory>
         ensures { IfOk result (λ steps. AreCovering [] addresses.now steps.rows.items) }
     {
@@ -182,8 +182,8 @@ impl RowSteps {
         Ok(RowSteps { starts, rows })
     }
 
-    /// Those at some addresses, which ascend: they are the starts, and no address between them is told of. The program
-    /// is run once, and it takes the memory of the addresses.
+    /// The steps of a unit's program at some addresses, which ascend: they are the starts, and nothing is stated about
+    /// addresses between them. The program is run once, and the memory is that of the addresses.
     #[tactic(auto, unfolding(dwarf_source_frames::specs::AddressFrames::rows_of))]
     pub fn at(heap: Heap, lines: &UnitLines<'_>, addresses: &[u64]) -> Result<RowSteps, NoMemory>
         requires range { IfSome lines.now.program (λ p. 0 < p.header.line_range) }

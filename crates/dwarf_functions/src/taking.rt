@@ -1,4 +1,4 @@
-//! Starts that get the links of the functions that contain them, one function after another.
+//! Starts, to which the links of the functions that contain them are assigned, one function after another.
 
 ghost use Rattle.std.specs.Prelude.{◌≡◌, ◌<◌, ◌∷◌, [], ℕ, List, OnOk, Some, length, slice_get, slice_index, true};
 ghost use Rattle.dwarf_ranges.specs.Lists.{in_ranges};
@@ -12,10 +12,10 @@ use dwarf_asked_addresses::{Waiting, count_below};
 use dwarf_ranges::CodeRange;
 use memory::{Heap, NoMemory};
 
-/// How many frames an address has at most.
+/// The largest number of frames of an address.
 const FRAMES_MAX: usize = 256;
 
-/// Starts with the numbers of their links, so far; those that may get further ones wait.
+/// Starts with the numbers of their links, so far; those whose links may still change wait.
 #[derive(Drop)]
 pub struct Taking<'f, 'a> {
     pub making: Making<'f, 'a>,
@@ -25,7 +25,7 @@ pub struct Taking<'f, 'a> {
 }
 
 impl<'f, 'a> Taking<'f, 'a> {
-    /// A start gets the link of a function in its own link.
+    /// Assigns to a start the link of a function in the start's own link.
     fn extend(&mut self, index: usize, at: usize) -> Result<(), NoMemory>
         requires taking { IsTaking self.old }
         requires index { index < length self.old.making.all.now.functions.items }
@@ -44,7 +44,8 @@ impl<'f, 'a> Taking<'f, 'a> {
         Ok(())
     }
 
-    /// A function contains a start, which waits. It waits no longer if the function does not stand in its link.
+    /// Records that a function contains a waiting start. The start no longer waits if the function is not nested in its
+    /// link.
     fn take_start(&mut self, index: usize, at: usize) -> Result<(), NoMemory>
         requires taking { IsTaking self.old }
         requires index { index < length self.old.making.all.now.functions.items }
@@ -72,7 +73,7 @@ impl<'f, 'a> Taking<'f, 'a> {
         self.extend(index, at)
     }
 
-    /// A function contains the starts of a range.
+    /// Records that a function contains the starts of a range.
     fn take_range(&mut self, index: usize, range: CodeRange) -> Result<(), NoMemory>
         requires taking { IsTaking self.old }
         requires index { index < length self.old.making.all.now.functions.items }
@@ -95,7 +96,7 @@ impl<'f, 'a> Taking<'f, 'a> {
         Ok(())
     }
 
-    /// A function contains the starts of some of its ranges.
+    /// Records that a function contains the starts of these ranges.
     fn take_ranges(&mut self, index: usize, ranges: &[CodeRange]) -> Result<(), NoMemory>
         requires taking { IsTaking self.old }
         requires index { index < length self.old.making.all.now.functions.items }
@@ -114,7 +115,8 @@ impl<'f, 'a> Taking<'f, 'a> {
         Ok(())
     }
 
-    /// A function contains the starts of its ranges. It visits each start once, however many of the ranges have it.
+    /// Records that a function contains the starts of its ranges. It visits each start once, even if several of the
+    /// ranges contain it.
     fn take_function(
         &mut self,
         heap: &Heap,
@@ -138,7 +140,7 @@ impl<'f, 'a> Taking<'f, 'a> {
         self.take_ranges(index, &parts)
     }
 
-    /// Each function contains the starts of its ranges.
+    /// Records for each function that it contains the starts of its ranges.
     pub fn take_all(&mut self, heap: &Heap) -> Result<(), NoMemory>
         requires taking { IsTaking self.old }
         requires parts { AreParts self.old.making.all.now.functions.items self.old.making.all.now.ranges.items }

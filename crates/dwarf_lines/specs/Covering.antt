@@ -1,10 +1,10 @@
--- The row of the line number table that covers an address (DWARF 5, section 6.2.2): a row covers the addresses from
--- its own on that are below the address of the next row of its sequence.
+-- The row of the line number table that covers an address (DWARF 5, section 6.2.2): a row covers the addresses from its
+-- own on that are below the address of the next row of its sequence.
 use Rattle.std.specs.Prelude.{ℕ, List, ◌≡◌, ◌+◌, ◌<◌, ◌≤◌, false, length, slice_get, slice_index, slice_index_or}
 use Rattle.std.specs.Prelude.{Option, Some, None, MatchOption}
 use Rattle.dwarf_lines.specs.declared.registers.Row.{Row}
 
--- the row of this index covers the address
+-- the row at this index covers the address
 pub record CoversAt (rows : List Row) (address : ℕ) (index : ℕ) (row : Row) : Type 0 where
   pub stands : slice_get rows index ≡ Some row
   pub inside : row.end_sequence ≡ false
@@ -21,7 +21,7 @@ IsCovering rows address found =
     (λ row. (index : ℕ) × CoversAt rows address index row
     × ((before : ℕ) (other : Row) → before < index → CoversAt rows address before other → ⊥))
 
--- for each address that row, or none
+-- each address has the first row that covers it, or none
 pub record AreCovering (rows : List Row) (addresses : List ℕ) (found : List (Option Row)) : Type 0 where
   pub len : length found ≡ length addresses
   pub each : (i : ℕ) → i < length addresses → IsCovering rows (slice_index addresses i) (slice_index_or found i None)

@@ -4,7 +4,7 @@ use Rattle.std.specs.Prelude.{nat_lt, Option, Some, None, if◌then◌else◌}
 use Rattle.dwarf_encoding.specs.LittleEndian.{u16_le_at, u32_le_at}
 use Rattle.dwarf_encoding.specs.Units.{is_64_bit}
 
--- what the machine takes from a header; line_base as its byte
+-- the fields of a header that the machine uses; line_base as its byte
 pub record HeaderRecord : Type 0 where
   pub minimum_instruction_length : ℕ
   pub line_base : ℕ
@@ -28,15 +28,15 @@ header_length_offset unit = if version unit == 5 then 8 else 6
 abbrev pub minimum_instruction_length_offset : List ℕ → ℕ
 minimum_instruction_length_offset unit = header_length_offset unit + 4
 
--- from version 4 on maximum_operations_per_instruction stands between minimum_instruction_length and default_is_stmt
+-- from version 4 on maximum_operations_per_instruction is between minimum_instruction_length and default_is_stmt
 abbrev pub default_is_stmt_offset : List ℕ → ℕ
 default_is_stmt_offset unit = minimum_instruction_length_offset unit + (if nat_le 4 (version unit) then 2 else 1)
 
--- line_base, line_range and opcode_base follow, of one byte each
+-- line_base, line_range and opcode_base follow, one byte each
 abbrev pub opcode_base : List ℕ → ℕ
 opcode_base unit = slice_index unit (default_is_stmt_offset unit + 3)
 
--- then standard_opcode_lengths, of one byte for each opcode from 1 to opcode_base - 1
+-- then standard_opcode_lengths, one byte for each opcode from 1 to opcode_base - 1
 abbrev pub standard_opcode_lengths_offset : List ℕ → ℕ
 standard_opcode_lengths_offset unit = default_is_stmt_offset unit + 4
 
@@ -59,7 +59,7 @@ header_of unit =
       standard_opcode_lengths = take (opcode_base unit - 1) (drop (standard_opcode_lengths_offset unit) unit);
     }
 
--- whether a unit has a header that is read here: it is in the 32-bit format, its version is 2 to 5, its fields lie
+-- whether a unit has a header that can be read here: it is in the 32-bit format, its version is 2 to 5, its fields are
 -- before its program, line_range is not 0, and from version 4 on maximum_operations_per_instruction is 1
 abbrev pub has_header : List ℕ → Bool
 has_header unit =

@@ -19,12 +19,12 @@ Read = Option (Instruction × List ℕ)
 abbrev pub with_number : (ℕ → Instruction) → Option (ℕ × List ℕ) → Read
 with_number of_number number = option_map (λ x. (of_number x.0, x.1)) number
 
--- the bytes after so many unsigned LEB128 operands
+-- the bytes after `count` unsigned LEB128 operands
 unfoldable pub after_operands : ℕ → List ℕ → Option (List ℕ)
 after_operands zero bytes = Some bytes
 after_operands (suc count) bytes = option_and_then (λ x. after_operands count x.1) (unsigned_leb128_at bytes)
 
--- an instruction with so many LEB128 operands that changes no register that is kept here
+-- an instruction with `count` LEB128 operands that changes no register that is kept here
 abbrev pub other_at : ℕ → List ℕ → Read
 other_at count bytes = option_map (λ rest. (Other, rest)) (after_operands count bytes)
 
@@ -34,10 +34,9 @@ fixed_advance_at bytes =
     if nat_lt (length bytes) 2 then None else Some (FixedAdvancePc (u16_le_at bytes 0), drop 2 bytes)
 
 -- an instruction of a standard opcode, from its operands on: DW_LNS_copy (1), DW_LNS_advance_pc (2),
--- DW_LNS_advance_line (3), DW_LNS_set_file (4), DW_LNS_set_column (5), DW_LNS_const_add_pc (8),
--- DW_LNS_fixed_advance_pc (9); DW_LNS_negate_stmt (6), DW_LNS_set_basic_block (7), DW_LNS_set_prologue_end (10) and
--- DW_LNS_set_epilogue_begin (11) have no operand, DW_LNS_set_isa (12) has one; others have as many as
--- standard_opcode_lengths says
+-- DW_LNS_advance_line (3), DW_LNS_set_file (4), DW_LNS_set_column (5), DW_LNS_const_add_pc (8), DW_LNS_fixed_advance_pc
+-- (9); DW_LNS_negate_stmt (6), DW_LNS_set_basic_block (7), DW_LNS_set_prologue_end (10) and DW_LNS_set_epilogue_begin
+-- (11) have no operand, DW_LNS_set_isa (12) has one; standard_opcode_lengths states the number for the others
 unfoldable pub standard_at : HeaderRecord → ℕ → List ℕ → Read
 standard_at header opcode bytes =
     if opcode == 1 then Some (Copy, bytes)
@@ -51,8 +50,8 @@ standard_at header opcode bytes =
     else if opcode == 12 then other_at 1 bytes
     else other_at (slice_index header.standard_opcode_lengths (opcode - 1)) bytes
 
--- the instruction that an extended opcode and its operands are: DW_LNE_end_sequence (1), and DW_LNE_set_address (2),
--- whose operand has eight bytes
+-- the instruction of an extended opcode and its operands: DW_LNE_end_sequence (1), and DW_LNE_set_address (2), whose
+-- operand has eight bytes
 unfoldable pub extended : List ℕ → Option Instruction
 extended [] = None
 extended (opcode ∷ operands) =
@@ -60,7 +59,7 @@ extended (opcode ∷ operands) =
     else if opcode == 2 then (if length operands == 8 then Some (SetAddress (u64_le_at operands 0)) else None)
     else Some Other
 
--- an extended instruction: the number of its bytes, and these
+-- an extended instruction: the number of its bytes, and the bytes
 unfoldable pub extended_at : List ℕ → Read
 extended_at bytes =
     option_and_then (λ x. if nat_lt (length x.1) x.0 then None

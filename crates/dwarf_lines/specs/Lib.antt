@@ -7,6 +7,6 @@ pub mod Names
 pub mod NameViews
 pub mod Paths
 pub mod PathViews
--- the words of inner functions: no contract of a public one has them
+-- definitions of inner functions: no contract of a public function uses them
 pub mod Inner
 pub mod Runs

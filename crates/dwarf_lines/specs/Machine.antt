@@ -1,4 +1,4 @@
--- The machine on which a line number program runs (DWARF 5, sections 6.2.2 and 6.2.5). Registers have 64 bits.
+-- The machine that runs a line number program (DWARF 5, sections 6.2.2 and 6.2.5). Registers have 64 bits.
 use Rattle.std.specs.Prelude.{ℕ, zero, suc, Bool, true, false, List, [], ◌∷◌, ◌++◌, length, ◌+◌, ◌-◌, ◌*◌, ◌/◌, ◌%◌}
 use Rattle.std.specs.Prelude.{◌^◌, nat_lt, if◌then◌else◌}
 use Rattle.std.specs.Option.{option_map_or}
@@ -12,11 +12,11 @@ use Rattle.dwarf_lines.specs.declared.instruction.Instruction.TheVariants.{Other
 use Rattle.dwarf_lines.specs.declared.registers.Registers.{Registers}
 use Rattle.dwarf_lines.specs.declared.registers.Row.{Row}
 
--- the registers at the start of each sequence
+-- the registers at the beginning of each sequence
 abbrev pub initial : Registers
 initial = record { address = 0; file = 1; line = 1; column = 0 }
 
--- the address after so many operations
+-- the address after `operations` operations
 abbrev pub advanced : HeaderRecord → Registers → ℕ → ℕ
 advanced header r operations = (r.address + header.minimum_instruction_length * operations) % 2 ^ 64
 
@@ -24,7 +24,7 @@ advanced header r operations = (r.address + header.minimum_instruction_length * 
 abbrev pub signed_byte : ℕ → ℕ
 signed_byte byte = if nat_lt byte 128 then byte else 2 ^ 64 - 256 + byte
 
--- the registers once an instruction was carried out, as the row that it appends has them
+-- the registers after an instruction, as the row that it appends has them
 unfoldable pub applied : HeaderRecord → Registers → Instruction → Registers
 applied header r (Special opcode) =
     record r {
@@ -71,11 +71,11 @@ ends_sequence EndSequence = true
 ends_sequence (SetAddress operand) = false
 ends_sequence Other = false
 
--- the rows that an instruction appends, once it was carried out with these registers
+-- the rows that an instruction appends, if these are the registers after it
 abbrev pub row_with : Registers → Instruction → List Row
 row_with r i = if appends_row i then record { registers = r; end_sequence = ends_sequence i } ∷ [] else []
 
--- the registers with which the next instruction begins, if an instruction has left these
+-- the registers before the next instruction, if these are the registers after an instruction
 abbrev pub registers_with : Registers → Instruction → Registers
 registers_with r i = if ends_sequence i then initial else r
 
@@ -83,17 +83,17 @@ registers_with r i = if ends_sequence i then initial else r
 abbrev pub appended : HeaderRecord → Registers → Instruction → List Row
 appended header r i = row_with (applied header r i) i
 
--- the registers with which the next instruction begins
+-- the registers before the next instruction
 abbrev pub following : HeaderRecord → Registers → Instruction → Registers
 following header r i = registers_with (applied header r i) i
 
--- the rows of at most so many instructions, which begin the bytes one after another
+-- the rows of the instructions at the beginning of the bytes, at most `count` instructions
 unfoldable pub rows_within : ℕ → HeaderRecord → Registers → List ℕ → List Row
 rows_within zero header r bytes = []
 rows_within (suc count) header r bytes =
     option_map_or (λ x. appended header r x.0 ++ rows_within count header (following header r x.0) x.1)
     (instruction_at header bytes) []
 
--- the rows of all instructions up to the first bytes that begin with none; no instruction has no byte
+-- the rows of all instructions, up to the first bytes that begin with none; each instruction has at least one byte
 unfoldable pub rows_from : HeaderRecord → Registers → List ℕ → List Row
 rows_from header r bytes = rows_within (length bytes) header r bytes

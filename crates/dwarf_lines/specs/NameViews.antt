@@ -1,4 +1,4 @@
--- Names of the code, as the definitions have them.
+-- Names in the code, as the definitions have them.
 use Rattle.std.specs.Prelude.{map}
 use Rattle.std.specs.Option.{option_map}
 use Rattle.dwarf_encoding.specs.Views.{value_view}
@@ -7,11 +7,11 @@ use Rattle.dwarf_lines.specs.declared.names.Name.{Name}
 use Rattle.dwarf_lines.specs.declared.names.Names.{Names}
 use Rattle.dwarf_lines.specs.declared.name_entries.Fields.{Fields}
 
--- a name, without where its text lies
+-- a name, without the address of its text in memory
 abbrev pub name_view : Name → NameRecord
 name_view n = record { name = value_view n.name; directory = n.directory }
 
--- the names of a header, without where they lie
+-- the names of a header, without the addresses of their texts in memory
 abbrev pub names_view : Names → NamesRecord
 names_view n =
     record {

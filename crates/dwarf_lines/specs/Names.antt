@@ -23,18 +23,18 @@ pub record NamesRecord : Type 0 where
   pub directories : List NameRecord
   pub files : List NameRecord
 
--- what follows the name of a file: the index of its directory, its time and its length
+-- the bytes after the name of a file: the index of its directory, its time and its length
 unfoldable pub directory_index_at : List ℕ → Option (ℕ × List ℕ)
 directory_index_at bytes =
     option_and_then
     (λ x. option_and_then (λ y. option_map (λ z. (x.0, z.1)) (unsigned_leb128_at y.1)) (unsigned_leb128_at x.1))
     (unsigned_leb128_at bytes)
 
--- what follows the name of a file or of an include directory, which has no more
+-- the bytes after the name of a file or of an include directory; an include directory has none
 abbrev pub directory_or_none_at : Bool → List ℕ → Option (ℕ × List ℕ)
 directory_or_none_at is_file bytes = if is_file then directory_index_at bytes else Some (0, bytes)
 
--- up to version 4: a file or an include directory; an empty name ends them
+-- versions 2 to 4: a file or an include directory; an empty name ends them
 unfoldable pub listed_name_at : Bool → List ℕ → Option (Option NameRecord × List ℕ)
 listed_name_at is_file bytes =
     option_and_then
@@ -56,12 +56,12 @@ abbrev pub format_pair_at : List ℕ → Option ((ℕ × ℕ) × List ℕ)
 format_pair_at bytes =
     option_and_then (λ x. option_map (λ y. ((x.0, y.0), y.1)) (unsigned_leb128_at x.1)) (unsigned_leb128_at bytes)
 
--- an entry format: the number of its pairs, of one byte, and these
+-- an entry format: the number of its pairs, one byte, and the pairs
 abbrev pub format_at : List ℕ → Option (List (ℕ × ℕ) × List ℕ)
 format_at [] = None
 format_at (count ∷ bytes) = counted format_pair_at count bytes
 
--- a value of an entry, of the forms that a name may have
+-- a value of an entry, with one of the forms that a name may have
 abbrev pub name_value_at : ℕ → List ℕ → Option (ValueRecord × List ℕ)
 name_value_at form bytes =
     if is_one_of (DW_FORM_string ∷ DW_FORM_line_strp ∷ DW_FORM_strp ∷ DW_FORM_udata ∷ DW_FORM_data1 ∷ DW_FORM_data2 ∷
@@ -69,12 +69,12 @@ name_value_at form bytes =
     then value_at 5 form 0 bytes
     else None
 
--- what an entry says here, if it has it: DW_LNCT_path (1) and DW_LNCT_directory_index (2)
+-- the fields of an entry that are used here, if it has them: DW_LNCT_path (1) and DW_LNCT_directory_index (2)
 pub record FieldsRecord : Type 0 where
   pub path : Option ValueRecord
   pub directory_index : Option ValueRecord
 
--- of two values of one content type the first counts
+-- the fields with one more value; a second value of a content type is ignored
 abbrev pub with_value : FieldsRecord → ℕ → ValueRecord → FieldsRecord
 with_value fields content_type value =
     record {
@@ -83,7 +83,7 @@ with_value fields content_type value =
           if content_type == 2 then option_or fields.directory_index (Some value) else fields.directory_index;
     }
 
--- the values of the pairs that are left, with those before them
+-- the values of the pairs that are left, added to the values before them
 unfoldable pub fields_from : FieldsRecord → List (ℕ × ℕ) → List ℕ → Option (FieldsRecord × List ℕ)
 fields_from fields [] bytes = Some (fields, bytes)
 fields_from fields (pair ∷ format) bytes =
@@ -98,7 +98,7 @@ index_of _ = 0
 abbrev pub name_of : FieldsRecord → NameRecord
 name_of fields = record { name = unwrap_or fields.path Other; directory = index_of fields.directory_index }
 
--- an entry of a format; without pairs there is none
+-- an entry of a format; None if the format has no pairs
 unfoldable pub entry_at : List (ℕ × ℕ) → List ℕ → Option (NameRecord × List ℕ)
 entry_at format bytes =
     if length format == 0 then None
@@ -106,7 +106,7 @@ entry_at format bytes =
     option_map (λ x. (name_of x.0, x.1))
     (fields_from (record { path = None; directory_index = None }) format bytes)
 
--- the entries of a table: their format, their number, and these
+-- the entries of a table: their format, their number, and the entries
 unfoldable pub entries_at : List ℕ → Option (List NameRecord × List ℕ)
 entries_at bytes =
     option_and_then

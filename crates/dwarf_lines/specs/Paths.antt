@@ -5,20 +5,20 @@ use Rattle.std.specs.Option.{option_map, option_and_then, unwrap_or}
 use Rattle.dwarf_encoding.specs.TextSections.{TextSectionsRecord, text_of}
 use Rattle.dwarf_lines.specs.Names.{NameRecord, NamesRecord}
 
--- in version 5 the first of some names has the index 0, before the index 1
+-- the name at an index: the first has the index 0 in version 5, and 1 in earlier versions
 abbrev pub name_at : ℕ → List NameRecord → ℕ → Option NameRecord
 name_at version names index =
     if version == 5 then slice_get names index
     else if index == 0 then None
     else slice_get names (index - 1)
 
--- the text of the directory of an index; none is empty
+-- the text of the directory at an index; empty if there is none
 abbrev pub directory_text : TextSectionsRecord → NamesRecord → ℕ → List ℕ
 directory_text sections names index =
     unwrap_or (option_and_then (λ d. text_of sections d.name) (name_at names.version names.directories index)) []
 
--- the directory of the compilation, to which the others are relative: directory 0 in version 5, and before
--- DW_AT_comp_dir of the unit
+-- the directory of the compilation, to which the others are relative: directory 0 in version 5, DW_AT_comp_dir of the
+-- unit in earlier versions
 abbrev pub base_text : TextSectionsRecord → List ℕ → NamesRecord → List ℕ
 base_text sections comp_dir names = if names.version == 5 then directory_text sections names 0 else comp_dir
 
@@ -28,7 +28,7 @@ pub record PathRecord : Type 0 where
   pub directory : List ℕ
   pub name : List ℕ
 
--- the parts of the path of the file of an index, if there is one and it has a name; directory 0 is the base
+-- the parts of the path of the file at an index, if there is one and it has a name; directory 0 is the base
 abbrev pub parts_of : TextSectionsRecord → List ℕ → NamesRecord → ℕ → Option PathRecord
 parts_of sections comp_dir names index =
     option_and_then
@@ -46,17 +46,17 @@ abbrev pub is_absolute : List ℕ → Bool
 is_absolute [] = false
 is_absolute (byte ∷ bytes) = byte == 47
 
--- one / stands between a folder and a name
+-- one / separates a folder and a name
 abbrev pub separator : List ℕ → List ℕ
 separator folder = if slice_index folder (length folder - 1) == 47 then [] else 47 ∷ []
 
 -- a name in a folder
-abbrev pub onto : List ℕ → List ℕ → List ℕ
-onto folder name =
+abbrev pub in_folder : List ℕ → List ℕ → List ℕ
+in_folder folder name =
     if is_absolute name || (length folder == 0) then name
     else if length name == 0 then folder
     else folder ++ separator folder ++ name
 
 -- the path
 abbrev pub path_of : PathRecord → List ℕ
-path_of parts = onto (onto parts.base parts.directory) parts.name
+path_of parts = in_folder (in_folder parts.base parts.directory) parts.name

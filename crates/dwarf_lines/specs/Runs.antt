@@ -7,7 +7,7 @@ use Rattle.dwarf_lines.specs.declared.instruction.Instruction.{Instruction}
 use Rattle.dwarf_lines.specs.declared.registers.Registers.{Registers}
 use Rattle.dwarf_lines.specs.declared.registers.Row.{Row}
 
--- these instructions begin the bytes, one after another, and after them none can be read
+-- the bytes begin with these instructions, one after another, and after them none can be read
 abbrev pub AreInstructions : HeaderRecord → List ℕ → List Instruction → Type 0
 AreInstructions header bytes [] = instruction_at header bytes ≡ None
 AreInstructions header bytes (i ∷ is) =

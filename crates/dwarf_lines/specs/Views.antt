@@ -1,9 +1,9 @@
--- Headers and programs of the code, as the definitions have them.
+-- Headers and programs in the code, as the definitions have them.
 use Rattle.dwarf_lines.specs.Header.{HeaderRecord, ProgramRecord}
 use Rattle.dwarf_lines.specs.declared.header.Header.{Header}
 use Rattle.dwarf_lines.specs.declared.header.Program.{Program}
 
--- a header, without where its numbers lie
+-- a header, without the address of its bytes in memory
 abbrev pub header_view : Header → HeaderRecord
 header_view h =
     record {
@@ -14,6 +14,6 @@ header_view h =
       standard_opcode_lengths = h.standard_opcode_lengths.now;
     }
 
--- a program, without where its bytes lie
+-- a program, without the address of its bytes in memory
 abbrev pub program_view : Program → ProgramRecord
 program_view p = record { header = header_view p.header; bytes = p.bytes.now }

@@ -8,16 +8,16 @@ ghost use Rattle.dwarf_lines.specs.Header.{has_header, program_of, name_bytes};
 
 use dwarf_encoding::{is_64_bit, u16_le_at, u32_le_at};
 
-/// What the machine takes from the header of a program. The fields have the standard's names.
+/// The fields of a program's header that the machine uses. They have the standard's names.
 #[derive(Clone, Copy)]
 pub struct Header<'a> {
     pub minimum_instruction_length: u8,
-    /// The byte of a signed number.
+    /// A signed number, as its byte.
     pub line_base: u8,
     /// It is not 0.
     pub line_range: u8,
     pub opcode_base: u8,
-    /// How many LEB128 operands each standard opcode has; the first is that of the opcode 1.
+    /// The number of LEB128 operands of each standard opcode, from opcode 1 on.
     pub standard_opcode_lengths: &'a [u8],
 }
 
@@ -73,7 +73,7 @@ fn program_offset(unit: &[u8]) -> usize
     offset + 4 + u32_le_at(unit, offset) as usize
 }
 
-/// Whether a unit has a header that is read here.
+/// Whether a unit has a header that can be read here.
 pub(crate) fn has_header(unit: &[u8]) -> bool
     ensures { result ≡ has_header unit.now }
 {
@@ -104,9 +104,9 @@ pub(crate) fn name_bytes(unit: &[u8]) -> &[u8]
 impl<'a> Program<'a> {
     ghost use Rattle.dwarf_lines.specs.Views.{program_view};
 
-    /// The program of a unit of `__debug_line`, with its initial length; `None` if its header is not read here: it is in
-    /// the 64-bit format, its version is not 2 to 5, its fields pass its program, `line_range` is 0, or
-    /// `maximum_operations_per_instruction` is not 1.
+    /// The program of a unit of `__debug_line`, with its initial length; `None` if its header cannot be read here: it
+    /// is in the 64-bit format, its version is not 2 to 5, its fields pass the beginning of its program, `line_range`
+    /// is 0, or `maximum_operations_per_instruction` is not 1.
     #[tactic(auto, unfolding(crate::specs::Header::program_of))]
     pub fn of(unit: &'a [u8]) -> Option<Program<'a>>
         ensures value { option_map (λ p. program_view p) result ≡ program_of unit.now }

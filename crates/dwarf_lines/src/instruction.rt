@@ -1,13 +1,13 @@
-/// An instruction of a line number program, as far as it changes a register that is kept here or appends a row.
+/// An instruction of a line number program, if it changes a register that is kept here or appends a row.
 #[derive(Clone, Copy)]
 pub enum Instruction {
-    /// A special opcode. It is at least `opcode_base`.
+    /// A special opcode, `opcode_base` or greater.
     Special(u8),
     /// `DW_LNS_copy`.
     Copy,
     /// `DW_LNS_advance_pc`, with its operand.
     AdvancePc(u64),
-    /// `DW_LNS_advance_line`, with its operand. A negative one is its two's complement of 64 bits.
+    /// `DW_LNS_advance_line`, with its operand. A negative operand is its two's complement of 64 bits.
     AdvanceLine(u64),
     /// `DW_LNS_set_file`, with its operand.
     SetFile(u64),
@@ -21,6 +21,6 @@ pub enum Instruction {
     EndSequence,
     /// `DW_LNE_set_address`, with its operand.
     SetAddress(u64),
-    /// Any other one: it changes no register that is kept here.
+    /// Another instruction, which changes no register that is kept here.
     Other,
 }

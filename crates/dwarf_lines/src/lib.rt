@@ -1,11 +1,11 @@
 //! Line number programs (DWARF 5, section 6.2), of the versions 2 to 5 in the 32-bit format: their headers with the
-//! names of directories and files, their instructions, the machine that these run on, and the rows of the line number
-//! table that it makes. Damage is never an error: what stands before it counts.
+//! names of directories and files, their instructions, the machine that runs them, and the rows of the line number
+//! table that it appends. Damage is never an error: the rows before it count.
 //!
 //! The modules in reading order: `opcodes`, the constants; `header`; `names`, the names of directories and files, as
 //! `name_lists` (versions 2 to 4) and `name_entries` (version 5) read them; `path`, the paths of files; `instruction`,
-//! and `reading`, how an instruction is written; `registers`; `rows`, one after another; `laws`, what the definitions
-//! say of each other.
+//! and `reading`, the encoding of an instruction; `registers`; `rows`, as an iterator; `laws`: relations between the
+//! definitions.
 #![tactic(auto)]
 
 mod header;

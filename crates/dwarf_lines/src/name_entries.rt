@@ -1,4 +1,4 @@
-//! Directories and files as version 5 lists them: each by an entry format.
+//! Directories and files of version 5, each with an entry format.
 
 ghost use Rattle.std.specs.Prelude.{◌≡◌, ◌<◌, IfOk, map};
 ghost use Rattle.std.specs.Option.{option_map};
@@ -19,7 +19,7 @@ const DW_LNCT_PATH: u64 = 1;
 /// The content type code of the index of a directory.
 const DW_LNCT_DIRECTORY_INDEX: u64 = 2;
 
-/// What an entry says here, if it has it.
+/// The fields of an entry that are used here, if it has them.
 #[derive(Clone, Copy)]
 struct Fields<'a> {
     path: Option<Value<'a>>,
@@ -35,7 +35,7 @@ fn format_pair(bytes: &[u8]) -> Option<((u64, u64), &[u8])>
     Some(((content_type, form), rest))
 }
 
-/// So many pairs of an entry format, and the bytes after them.
+/// `count` pairs of an entry format, and the bytes after them; `None` if they cannot be read. The error is `NoMemory`.
 fn format_pairs<'a>(
     heap: Heap,
     count: u8,
@@ -56,7 +56,7 @@ fn format_pairs<'a>(
     Ok(Some((found, rest)))
 }
 
-/// An entry format, and the bytes after it.
+/// An entry format, and the bytes after it; `None` if it cannot be read. The error is `NoMemory`.
 fn read_format<'a>(
     heap: Heap,
     bytes: &'a [u8],
@@ -88,7 +88,7 @@ fn name_value(form: u64, bytes: &[u8]) -> Option<(Value<'_>, &[u8])>
     }
 }
 
-/// The fields with a value more; of two values of one content type the first counts.
+/// The fields with one more value; a second value of a content type is ignored.
 fn with_value<'a>(fields: Fields<'a>, content_type: u64, value: Value<'a>) -> Fields<'a>
     ensures { fields_view result ≡ with_value (fields_view fields.entry) content_type (value_view value.entry) }
 {
@@ -135,7 +135,7 @@ fn index_of(value: Option<Value<'_>>) -> u64
     }
 }
 
-/// An entry of a format, and the bytes after it; `None` without pairs.
+/// An entry of a format, and the bytes after it; `None` if the format has no pairs or a value cannot be read.
 #[tactic(auto, unfolding(crate::specs::Names::entry_at))]
 fn entry<'a>(format: &[(u64, u64)], bytes: &'a [u8]) -> Option<(Name<'a>, &'a [u8])>
     ensures { option_map (λ x. (name_view x.0, x.1.now)) result ≡ entry_at format.now bytes.now }
@@ -151,7 +151,7 @@ fn entry<'a>(format: &[(u64, u64)], bytes: &'a [u8]) -> Option<(Name<'a>, &'a [u
     Some((name, rest))
 }
 
-/// So many entries of a format, and the bytes after them.
+/// `count` entries of a format, and the bytes after them; `None` if they cannot be read. The error is `NoMemory`.
 fn counted_entries<'a>(
     heap: Heap,
     format: &[(u64, u64)],
@@ -173,8 +173,8 @@ fn counted_entries<'a>(
     Ok(Some((found, rest)))
 }
 
-/// The entries of a table, and the bytes after it; `None` if one cannot be read. Each takes a byte, so a number of
-/// entries costs no more than the bytes do.
+/// The entries of a table, and the bytes after it; `None` if one cannot be read. Each has at least one byte, so time
+/// and memory are proportional to the bytes, whatever number of entries is stated. The error is `NoMemory`.
 #[tactic(auto, unfolding(crate::specs::Names::entries_at))]
 pub(crate) fn read_entries<'a>(
     heap: Heap,

@@ -1,4 +1,4 @@
-//! Directories and files as the versions 2 to 4 list them.
+//! Directories and files of the versions 2 to 4.
 
 ghost use Rattle.std.specs.Prelude.{◌≡◌, ◌<◌, IfOk, length, map};
 ghost use Rattle.std.specs.Option.{option_map};
@@ -10,7 +10,7 @@ use crate::names::Name;
 use dwarf_encoding::{Value, read_text, unsigned_leb128};
 use memory::{Heap, NoMemory};
 
-/// The index of a file's directory, and the bytes after its time and its length; for a directory 0.
+/// The index of a file's directory, and the bytes after its time and its length; for a directory 0, and the same bytes.
 #[tactic(auto, unfolding(crate::specs::Names::directory_index_at))]
 fn directory_index(is_file: bool, bytes: &[u8]) -> Option<(u64, &[u8])>
     ensures { option_map (λ x. (x.0, x.1.now)) result ≡ directory_or_none_at is_file bytes.now }
@@ -24,7 +24,7 @@ fn directory_index(is_file: bool, bytes: &[u8]) -> Option<(u64, &[u8])>
     Some((index, rest))
 }
 
-/// A file or a directory, or `None` for the empty text that ends them, and the bytes after it.
+/// A file or a directory, or `None` for the empty text, which ends them; and the bytes after it.
 #[tactic(auto, unfolding(crate::specs::Names::listed_name_at))]
 fn listed_name<'a>(is_file: bool, bytes: &'a [u8]) -> Option<(Option<Name<'a>>, &'a [u8])>
     ensures { option_map (λ x. (option_map name_view x.0, x.1.now)) result ≡ listed_name_at is_file bytes.now }
@@ -41,7 +41,8 @@ fn listed_name<'a>(is_file: bool, bytes: &'a [u8]) -> Option<(Option<Name<'a>>, 
     Some((Some(name), rest))
 }
 
-/// The files or directories up to the empty text that ends them, and the bytes after that.
+/// The files or directories before the empty text that ends them, and the bytes after that text; `None` if they cannot
+/// be read. The error is `NoMemory`.
 pub(crate) fn read_listed_names<'a>(
     heap: Heap,
     is_file: bool,

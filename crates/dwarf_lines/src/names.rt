@@ -14,13 +14,13 @@ use memory::{Heap, NoMemory};
 /// A directory or a file.
 #[derive(Clone, Copy)]
 pub struct Name<'a> {
-    /// Its text, or where that stands; another value if it has no name.
+    /// Its text, or the reference to it; another value if it has no name.
     pub name: Value<'a>,
     /// The index of the directory of a file; 0 for a directory.
     pub directory: u64,
 }
 
-/// The names of a header, in its order: in version 5 the first has the index 0, before it has the index 1.
+/// The names of a header, in its order: the first has the index 0 in version 5, and 1 in earlier versions.
 #[derive(Drop)]
 pub struct Names<'a> {
     pub version: u16,
@@ -67,8 +67,8 @@ fn read_version_5<'a>(heap: Heap, bytes: &'a [u8]) -> Result<Option<Names<'a>>, 
 }
 
 impl<'a> Names<'a> {
-    /// The names in the header of a unit of `__debug_line`; `None` if the header or a name cannot be read. It takes the
-    /// time of the header, and the memory of the names.
+    /// The names in the header of a unit of `__debug_line`; `None` if the header or a name cannot be read. The time is
+    /// that of reading the header, and the memory is that of the names. The error is `NoMemory`.
     #[tactic(auto, unfolding(crate::specs::Names::names_of))]
     pub fn read(heap: Heap, unit: &'a [u8]) -> Result<Option<Names<'a>>, NoMemory>
         ensures { IfOk result (λ names. option_map names_view names ≡ names_of unit.now) }

@@ -4,25 +4,26 @@ ghost use Rattle.std.specs.Prelude.{◌≡◌, IfOk, map};
 ghost use Rattle.std.specs.Option.{option_map};
 ghost use Rattle.dwarf_encoding.specs.TextViews.{text_sections_view};
 ghost use Rattle.dwarf_lines.specs.NameViews.{name_view, names_view};
-ghost use Rattle.dwarf_lines.specs.Paths.{name_at, directory_text, base_text, parts_of, is_absolute, onto, path_of};
+ghost use Rattle.dwarf_lines.specs.Paths.{name_at, directory_text, base_text, parts_of, is_absolute};
+ghost use Rattle.dwarf_lines.specs.Paths.{in_folder, path_of};
 ghost use Rattle.dwarf_lines.specs.PathViews.{path_view};
 
 use crate::names::{Name, Names};
 use dwarf_encoding::TextSections;
 use memory::{Heap, NoMemory};
 
-/// The parts of a path, which are joined when it is wanted. A part that is not known is empty.
+/// The parts of a path, which are joined on demand. An unknown part is empty.
 #[derive(Clone, Copy)]
 pub struct PathParts<'a> {
     /// The directory of the compilation.
     pub base: &'a [u8],
-    /// The directory of the file; empty if it is that of the compilation.
+    /// The directory of the file; empty if it is the directory of the compilation.
     pub directory: &'a [u8],
     /// The name of the file.
     pub name: &'a [u8],
 }
 
-/// The name of an index: in version 5 the first has the index 0, before it has the index 1.
+/// The name at an index: the first has the index 0 in version 5, and 1 in earlier versions.
 fn name_at<'a>(version: u16, names: &[Name<'a>], index: u64) -> Option<Name<'a>>
     ensures { option_map name_view result ≡ name_at version (map (λ n. name_view n) names.now) index }
 {
@@ -37,7 +38,7 @@ fn name_at<'a>(version: u16, names: &[Name<'a>], index: u64) -> Option<Name<'a>>
     Some(names[index as usize])
 }
 
-/// The text of the directory of an index, or none.
+/// The text of the directory at an index; empty if there is none.
 fn directory_text<'a>(sections: &TextSections<'a>, names: &Names<'a>, index: u64) -> &'a [u8]
     ensures { result.now ≡ directory_text (text_sections_view sections.now) (names_view names.now) index }
 {
@@ -59,7 +60,7 @@ fn base_text<'a>(sections: &TextSections<'a>, comp_dir: &'a [u8], names: &Names<
 }
 
 impl<'a> Names<'a> {
-    /// The parts of the path of the file of an index, as rows and DW_AT_call_file have it; `None` if there is no such
+    /// The parts of the path of the file at an index, as rows and DW_AT_call_file have it; `None` if there is no such
     /// file or it has no name. `comp_dir` is DW_AT_comp_dir of the unit, or empty.
     pub fn path(
         &self,
@@ -97,8 +98,8 @@ fn is_absolute(path: &[u8]) -> bool
 }
 
 /// A name in a folder.
-fn onto(heap: Heap, folder: &[u8], name: &[u8]) -> Result<Vec<u8, Heap>, NoMemory>
-    ensures { IfOk result (λ path. path.items ≡ onto folder.now name.now) }
+fn in_folder(heap: Heap, folder: &[u8], name: &[u8]) -> Result<Vec<u8, Heap>, NoMemory>
+    ensures { IfOk result (λ path. path.items ≡ in_folder folder.now name.now) }
 {
     let mut path = Vec::new(heap);
     if is_absolute(name) || folder.is_empty() {
@@ -121,8 +122,8 @@ impl<'a> PathParts<'a> {
     pub fn joined(&self, heap: Heap) -> Result<Vec<u8, Heap>, NoMemory>
         ensures { IfOk result (λ path. path.items ≡ path_of (path_view self.now)) }
     {
-        let folder = onto(heap.share(), self.base, self.directory)?;
-        let path = onto(heap, &folder, self.name)?;
+        let folder = in_folder(heap.share(), self.base, self.directory)?;
+        let path = in_folder(heap, &folder, self.name)?;
         Ok(path)
     }
 }

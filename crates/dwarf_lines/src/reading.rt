@@ -1,4 +1,4 @@
-//! How instructions are written (DWARF 5, sections 6.2.5 and 7.22).
+//! The encoding of instructions (DWARF 5, sections 6.2.5 and 7.22).
 
 ghost use Rattle.std.specs.Prelude.{◌≡◌, ◌<◌, length};
 ghost use Rattle.std.specs.Option.{option_map};
@@ -16,7 +16,7 @@ use crate::opcodes::{
 };
 use dwarf_encoding::{signed_leb128, u16_le_at, u64_le_at, unsigned_leb128};
 
-/// The bytes after so many unsigned LEB128 operands.
+/// The bytes after `count` unsigned LEB128 operands.
 fn after_operands(count: u8, bytes: &[u8]) -> Option<&[u8]>
     ensures { option_map (λ rest. rest.now) result ≡ after_operands count bytes.now }
 {
@@ -30,8 +30,8 @@ fn after_operands(count: u8, bytes: &[u8]) -> Option<&[u8]>
     Some(rest)
 }
 
-/// An instruction with so many LEB128 operands that changes no register that is kept here.
-fn other(count: u8, bytes: &[u8]) -> Option<(Instruction, &[u8])>
+/// An instruction with `count` LEB128 operands that changes no register that is kept here.
+fn other_instruction(count: u8, bytes: &[u8]) -> Option<(Instruction, &[u8])>
     ensures { option_map (λ x. (x.0, x.1.now)) result ≡ other_at count bytes.now }
 {
     let rest = after_operands(count, bytes)?;
@@ -51,7 +51,11 @@ fn fixed_advance(bytes: &[u8]) -> Option<(Instruction, &[u8])>
 
 /// The instruction of a standard opcode, from its operands on.
 #[tactic(auto, unfolding(crate::specs::Instructions::standard_at))]
-fn standard<'a>(header: &Header<'_>, opcode: u8, bytes: &'a [u8]) -> Option<(Instruction, &'a [u8])>
+fn standard_instruction<'a>(
+    header: &Header<'_>,
+    opcode: u8,
+    bytes: &'a [u8],
+) -> Option<(Instruction, &'a [u8])>
     requires { 0 < opcode }
     ensures { option_map (λ x. (x.0, x.1.now)) result ≡ standard_at (header_view header.now) opcode bytes.now }
 {
@@ -79,7 +83,7 @@ fn standard<'a>(header: &Header<'_>, opcode: u8, bytes: &'a [u8]) -> Option<(Ins
         | DW_LNS_SET_BASIC_BLOCK
         | DW_LNS_SET_PROLOGUE_END
         | DW_LNS_SET_EPILOGUE_BEGIN => { Some((Instruction::Other, bytes)) }
-        DW_LNS_SET_ISA => other(1, bytes),
+        DW_LNS_SET_ISA => other_instruction(1, bytes),
         _ => {
             let index = opcode as usize - 1;
             let count = if index < header.standard_opcode_lengths.len() {
@@ -87,13 +91,13 @@ fn standard<'a>(header: &Header<'_>, opcode: u8, bytes: &'a [u8]) -> Option<(Ins
             } else {
                 0
             };
-            other(count, bytes)
+            other_instruction(count, bytes)
         }
     }
 }
 
-/// The instruction that an extended opcode and its operands are; `None` if there is no byte, or the address of
-/// `DW_LNE_set_address` has not eight.
+/// The instruction of an extended opcode and its operands; `None` if there is no byte, or the address of
+/// `DW_LNE_set_address` does not have eight.
 #[tactic(auto, unfolding(crate::specs::Instructions::extended))]
 fn extended(bytes: &[u8]) -> Option<Instruction>
     ensures { result ≡ extended bytes.now }
@@ -138,5 +142,5 @@ pub(crate) fn instruction<'a>(
     if header.opcode_base <= *opcode {
         return Some((Instruction::Special(*opcode), rest));
     }
-    standard(header, *opcode, rest)
+    standard_instruction(header, *opcode, rest)
 }

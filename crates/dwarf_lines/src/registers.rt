@@ -6,7 +6,7 @@ ghost use Rattle.dwarf_lines.specs.Machine.{signed_byte};
 use crate::header::Header;
 use crate::instruction::Instruction;
 
-/// The registers that say where a row is. The others of the standard change none of them.
+/// The registers for the address and the source location of a row. The standard's other registers change none of them.
 #[derive(Clone, Copy, Debug, PartialEq, Eq)]
 pub struct Registers {
     /// The address of an instruction of the code.
@@ -23,11 +23,11 @@ pub struct Registers {
 #[derive(Clone, Copy, Debug, PartialEq, Eq)]
 pub struct Row {
     pub registers: Registers,
-    /// Whether the address is the first one after a sequence of instructions of the code.
+    /// Whether the address is the first after a sequence of instructions of the code.
     pub end_sequence: bool,
 }
 
-/// The registers at the start of each sequence.
+/// The registers at the beginning of each sequence.
 pub(crate) const INITIAL: Registers = Registers {
     address: 0,
     file: 1,
@@ -50,7 +50,7 @@ impl Registers {
     ghost use Rattle.dwarf_lines.specs.Machine.{advanced, applied};
     ghost use Rattle.dwarf_lines.specs.Views.{header_view};
 
-    /// The address after so many operations.
+    /// The address after `operations` operations.
     fn advanced(&self, header: &Header<'_>, operations: u64) -> u64
         ensures { result ≡ advanced (header_view header.now) self.now operations }
     {
@@ -58,7 +58,7 @@ impl Registers {
         self.address.wrapping_add(advance)
     }
 
-    /// The registers after an instruction, before `DW_LNE_end_sequence` sets them back.
+    /// The registers after an instruction, before `DW_LNE_end_sequence` resets them.
     #[tactic(auto, unfolding(crate::specs::Machine::applied))]
     pub(crate) fn applied(self, header: &Header<'_>, instruction: Instruction) -> Registers
         requires { 0 < header.now.line_range }

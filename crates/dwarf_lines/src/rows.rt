@@ -1,4 +1,4 @@
-//! The rows of a program, one after another.
+//! The rows of a program, as an iterator.
 
 ghost use Rattle.std.specs.Prelude.{◌≡◌, ◌<◌};
 ghost use Rattle.std.specs.Option.{option_to_list};
@@ -12,7 +12,7 @@ use crate::registers::{INITIAL, Registers, Row};
 use std::marker::Model;
 
 /// The rows of a program, in the order in which the machine appends them, up to the first instruction that cannot be
-/// read. It takes no memory. A contract sees the list of those that are left.
+/// read. It allocates no memory. A contract sees the list of the rows that are left.
 #[derive(Drop)]
 pub struct Rows<'a> {
     header: Header<'a>,
@@ -33,7 +33,7 @@ impl<'a> Model for Rows<'a> {
     ghost invariant = { λ r. 0 < r.header.line_range };
 }
 
-/// The row that an instruction appends, which has left these registers.
+/// The row that an instruction appends, if these are the registers after it.
 fn row_with(registers: Registers, instruction: Instruction) -> Option<Row>
     ensures { option_to_list result ≡ row_with registers instruction }
 {
@@ -50,7 +50,7 @@ fn row_with(registers: Registers, instruction: Instruction) -> Option<Row>
     }
 }
 
-/// The registers with which the next instruction begins.
+/// The registers before the next instruction, if these are the registers after an instruction.
 fn registers_with(registers: Registers, instruction: Instruction) -> Registers
     ensures { result ≡ registers_with registers instruction }
 {

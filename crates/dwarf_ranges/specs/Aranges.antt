@@ -1,4 +1,4 @@
--- Which unit an address is of, by __debug_aranges (DWARF 5, section 6.1.2).
+-- The unit of an address according to __debug_aranges (DWARF 5, section 6.1.2).
 use Rattle.std.specs.Prelude.{ℕ, List, [], length, drop, map, slice_index, ◌==◌, ◌&&◌, ◌+◌, ◌≡◌, ◌<◌, ◌≤◌, nat_lt}
 use Rattle.std.specs.Prelude.{nat_le, if◌then◌else◌, Bool, false, not, Option, Some, None, MatchOption, slice_get}
 use Rattle.std.specs.BTreeMap as tree_map
@@ -27,7 +27,7 @@ tuple_at bytes =
     else (if (u64_le_at bytes 0 == 0) && (u64_le_at bytes 8 == 0) then None
     else Some ((u64_le_at bytes 0, u64_le_at bytes 8), drop 16 bytes))
 
--- the tuples that begin the bytes, of a unit
+-- the tuples that begin the bytes, for a unit
 unfoldable pub tuples_from : ℕ → List ℕ → List Arange
 tuples_from unit bytes =
     map (λ t. record { debug_info_offset = unit; address = t.0; length = t.1 }) (sequence tuple_at bytes)
@@ -40,19 +40,19 @@ tuples_of set = option_map_or (λ h. tuples_from h.0 h.1) (header_of set) []
 unfoldable pub aranges_of : List ℕ → List Arange
 aranges_of section = flat_map tuples_of (sequence unit_at section)
 
--- whether a set is of the unit at an offset
+-- whether a set names the unit at an offset
 abbrev pub names_unit : ℕ → List ℕ → Bool
 names_unit offset set = option_map_or (λ h. h.0 == offset) (header_of set) false
 
--- whether one of the sets is
+-- whether one of the sets names the unit at an offset
 unfoldable pub is_named : List ℕ → ℕ → Bool
 is_named section offset = list_any (names_unit offset) (sequence unit_at section)
 
--- a tuple has an address, in whole numbers
+-- a tuple contains an address, in whole numbers
 abbrev pub HasAddress : ℕ → Arange → Type 0
 HasAddress address tuple = (tuple.address ≤ address) × (address < tuple.address + tuple.length)
 
--- the first tuple that has an address, or none if none has it
+-- the first tuple that contains an address, or none if no tuple does
 abbrev pub IsFirstTuple : List Arange → ℕ → Option Arange → Type 0
 IsFirstTuple tuples address found =
     MatchOption found
@@ -60,7 +60,7 @@ IsFirstTuple tuples address found =
     (λ tuple. (i : ℕ) × (slice_get tuples i ≡ Some tuple) × HasAddress address tuple
     × ((j : ℕ) (other : Arange) → j < i → slice_get tuples j ≡ Some other → HasAddress address other → ⊥))
 
--- for each address that tuple, or none
+-- each address has its first tuple, or none
 pub record AreFirstTuples (tuples : List Arange) (addresses : List ℕ) (found : tree_map.BTreeMap ℕ Arange)
     : Type 0 where
   pub each : (i : ℕ) → i < length addresses →

@@ -1,4 +1,4 @@
--- Addresses that are pending, and what was found for others.
+-- Pending addresses, and the values of the others.
 use Rattle.std.specs.Prelude.{ℕ, List, true, false, ◌≡◌, Some}
 use Rattle.std.specs.Ordering.{nat_cmp}
 use Rattle.std.specs.BTreeSet as tree_set
@@ -6,7 +6,7 @@ use Rattle.std.specs.BTreeMap as tree_map
 use Rattle.dwarf_ranges.specs.Lists.{in_ranges}
 use Rattle.dwarf_ranges.specs.declared.range.CodeRange.{CodeRange}
 
--- each pending address in one of some ranges was given this value and is pending no longer; all others are as they were
+-- each pending address in one of these ranges gets this value and is no longer pending; the others are unchanged
 pub record AssignsRanges (ranges : List CodeRange) (value : ℕ) (pending : tree_set.BTreeSet ℕ)
     (found : tree_map.BTreeMap ℕ ℕ) (left : tree_set.BTreeSet ℕ) (now_found : tree_map.BTreeMap ℕ ℕ) : Type 0 where
   pub none_within : (a : ℕ) → in_ranges a ranges ≡ true → tree_set.contains nat_cmp left a ≡ false

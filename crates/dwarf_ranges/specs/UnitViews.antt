@@ -1,4 +1,4 @@
--- The places of ranges, as the definitions have them.
+-- The sections and bases of ranges, as the definitions have them.
 use Rattle.std.specs.Option.{option_map}
 use Rattle.dwarf_encoding.specs.Views.{value_view}
 use Rattle.dwarf_ranges.specs.EntryRanges.{RangeAttributesRecord, UnitRangesRecord}
@@ -6,7 +6,7 @@ use Rattle.dwarf_ranges.specs.Views.{addresses_view}
 use Rattle.dwarf_ranges.specs.declared.unit_ranges.RangeAttributes.{RangeAttributes}
 use Rattle.dwarf_ranges.specs.declared.unit_ranges.UnitRanges.{UnitRanges}
 
--- a unit, without where its sections lie
+-- a unit, without the addresses of its sections in memory
 abbrev pub unit_view : UnitRanges → UnitRangesRecord
 unit_view u =
     record {
@@ -18,7 +18,7 @@ unit_view u =
       base = u.base;
     }
 
--- attributes, without where their texts lie
+-- attributes, without the addresses of their texts in memory
 abbrev pub attributes_view : RangeAttributes → RangeAttributesRecord
 attributes_view a =
     record {

@@ -1,4 +1,4 @@
-//! Addresses by their indexes.
+//! Addresses by index.
 
 ghost use Rattle.std.specs.Prelude.{◌≡◌};
 ghost use Rattle.dwarf_ranges.specs.Addresses.{address_at, u64_with_index};
@@ -6,7 +6,7 @@ ghost use Rattle.dwarf_ranges.specs.Views.{addresses_view};
 
 use dwarf_encoding::u64_le_at;
 
-/// The section `__debug_addr`, and where a unit has its part of it (DWARF 5, section 7.27).
+/// The section `__debug_addr`, and the offset of the unit's part of it (DWARF 5, section 7.27).
 #[derive(Clone, Copy)]
 pub struct AddressTable<'a> {
     pub debug_addr: &'a [u8],
@@ -14,7 +14,7 @@ pub struct AddressTable<'a> {
     pub addr_base: u64,
 }
 
-/// The number of eight bytes with an index from a base on; `None` if it passes the end.
+/// The eight-byte number at an index of the part of a section that begins at `base`; `None` if it passes the end.
 fn u64_with_index(section: &[u8], base: u64, index: u64) -> Option<u64>
     ensures { result ≡ u64_with_index section.now base index }
 {
@@ -27,7 +27,7 @@ fn u64_with_index(section: &[u8], base: u64, index: u64) -> Option<u64>
 }
 
 impl<'a> AddressTable<'a> {
-    /// The address with an index, from 0 on; `None` if it passes the end of the section.
+    /// The address at an index, from 0 on; `None` if it passes the end of the section.
     pub fn get(&self, index: u64) -> Option<u64>
         ensures { result ≡ address_at (addresses_view self.now) index }
     {

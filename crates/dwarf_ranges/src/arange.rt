@@ -1,6 +1,6 @@
 //! A tuple of `__debug_aranges`.
 
-/// Which unit so many addresses are of, from one on.
+/// A tuple: the `length` addresses from `address` on belong to a unit.
 #[derive(Clone, Copy, Debug, PartialEq, Eq)]
 pub struct Arange {
     /// The offset of the unit in `__debug_info`.

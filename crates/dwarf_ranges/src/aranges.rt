@@ -1,4 +1,4 @@
-//! The tuples of `__debug_aranges`, one after another.
+//! The tuples of `__debug_aranges`, as an iterator.
 
 ghost use Rattle.std.specs.Prelude.{◌≡◌, ◌++◌, ◌≤◌, IsTrue, length};
 ghost use Rattle.std.specs.Option.{option_map};
@@ -8,8 +8,8 @@ use crate::arange::Arange;
 use dwarf_encoding::{is_64_bit, split_unit, u16_le_at, u32_le_at, u64_le_at};
 use std::marker::Model;
 
-/// The tuples of all sets of `__debug_aranges`, in their order. It takes no memory. A contract sees the list of those
-/// that are left.
+/// The tuples of all sets of `__debug_aranges`, in their order. It allocates no memory. A contract sees the list of the
+/// tuples that are left.
 #[derive(Drop)]
 pub struct Aranges<'a> {
     debug_info_offset: u64,
@@ -27,7 +27,7 @@ impl<'a> Model for Aranges<'a> {
     ghost view = { λ a. tuples_from a.debug_info_offset a.tuples.now ++ aranges_of a.sets.now };
 }
 
-/// Whether a set can be read.
+/// Whether a set can be read: the 32-bit format, version 2, addresses of eight bytes, and no segments.
 #[tactic(auto, unfolding(crate::specs::Aranges::is_read))]
 fn is_read(set: &[u8]) -> bool
     ensures is { result ≡ is_read set.now }
@@ -36,7 +36,7 @@ fn is_read(set: &[u8]) -> bool
     set.len() >= 16 && !is_64_bit(set) && u16_le_at(set, 4) == 2 && set[10] == 8 && set[11] == 0
 }
 
-/// The offset of the unit of a set, and its tuples; `None` if the set cannot be read.
+/// The offset of a set's unit, and its tuples; `None` if the set cannot be read.
 #[tactic(auto, unfolding(crate::specs::Aranges::header_of))]
 pub(crate) fn header_of(set: &[u8]) -> Option<(u64, &[u8])>
     ensures { option_map (λ x. (x.0, x.1.now)) result ≡ header_of set.now }
@@ -47,7 +47,7 @@ pub(crate) fn header_of(set: &[u8]) -> Option<(u64, &[u8])>
     Some((u64::from(u32_le_at(set, 6)), set.split_at(16).1))
 }
 
-/// The offset of the unit of a set, and its tuples; none if the set cannot be read.
+/// The offset of a set's unit, and its tuples; no tuples if the set cannot be read.
 fn tuples_of(set: &[u8]) -> (u64, &[u8])
     ensures { tuples_from result.0 result.1.now ≡ tuples_of set.now }
 {
@@ -57,7 +57,8 @@ fn tuples_of(set: &[u8]) -> (u64, &[u8])
     }
 }
 
-/// The address and the length that begin the bytes, and the bytes after them; `None` if fewer are there, or both are 0.
+/// The address and the length that begin the bytes, and the bytes after them; `None` if there are fewer than 16 bytes,
+/// or both numbers are 0.
 #[tactic(auto, unfolding(crate::specs::Aranges::tuple_at))]
 fn tuple_at(bytes: &[u8]) -> Option<((u64, u64), &[u8])>
     ensures { option_map (λ x. (x.0, x.1.now)) result ≡ tuple_at bytes.now }

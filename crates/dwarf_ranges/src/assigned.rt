@@ -8,8 +8,8 @@ use dwarf_asked_addresses::assign_within;
 use memory::{Heap, NoMemory};
 use std::collections::{BTreeMap, BTreeSet};
 
-/// Gives a value to each pending address in the ranges. These are pending no longer. It takes the time of the ranges,
-/// and of finding each of these addresses.
+/// Assigns a value to each pending address in the ranges, which is then no longer pending. The time is that of the
+/// ranges, and of a search for each of these addresses.
 pub fn assign_ranges(
     pending: &mut BTreeSet<u64, Heap>,
     found: &mut BTreeMap<u64, u64, Heap>,

@@ -15,7 +15,7 @@ use crate::unit_ranges::{RangeAttributes, UnitRanges};
 use dwarf_encoding::{Value, u32_le_at};
 
 impl<'a> AddressTable<'a> {
-    /// The address that a value is; `None` for a value of another class, and for an index past the end.
+    /// The address that a value names; `None` for a value of another class, and for an index past the end.
     pub fn address_of(&self, value: &Value<'a>) -> Option<u64>
         ensures { result ≡ address_of (addresses_view self.now) (value_view value.now) }
     {
@@ -26,7 +26,7 @@ impl<'a> AddressTable<'a> {
         }
     }
 
-    /// The end of a range that begins at `low`.
+    /// The end of a range that begins at `low`: an address, or `low` plus a constant; `None` for other values.
     fn end_of(&self, low: u64, value: &Value<'a>) -> Option<u64>
         ensures { result ≡ end_of (addresses_view self.now) low (value_view value.now) }
     {
@@ -39,7 +39,8 @@ impl<'a> AddressTable<'a> {
     }
 }
 
-/// The offset with an index in `__debug_rnglists`, by the base of the unit; `None` if it passes the end.
+/// The offset of the list at an index: `base`, plus the four-byte number at this index of the part of
+/// `__debug_rnglists` that begins at `base`; `None` if it passes the end.
 fn listed_offset(debug_rnglists: &[u8], base: u64, index: u64) -> Option<u64>
     ensures { result ≡ listed_offset debug_rnglists.now base index }
 {
@@ -51,7 +52,7 @@ fn listed_offset(debug_rnglists: &[u8], base: u64, index: u64) -> Option<u64>
     Some(base + u64::from(u32_le_at(debug_rnglists, offset as usize)))
 }
 
-/// The bytes from an offset on, none past the end.
+/// The bytes from an offset on; none past the end.
 fn from_offset(bytes: &[u8], offset: u64) -> &[u8]
     ensures { result.now ≡ drop offset bytes.now }
 {
@@ -62,7 +63,7 @@ fn from_offset(bytes: &[u8], offset: u64) -> &[u8]
 }
 
 impl<'a> UnitRanges<'a> {
-    /// The offset of a list of ranges that a value is.
+    /// The offset of the range list that a value names; `None` if it names none.
     fn list_offset(&self, value: &Value<'a>) -> Option<u64>
         ensures { result ≡ list_offset (unit_view self.now) (value_view value.now) }
     {
@@ -78,7 +79,7 @@ impl<'a> UnitRanges<'a> {
         }
     }
 
-    /// The list of ranges at an offset: how its entries are written, and the bytes from there on.
+    /// The range list at an offset: the encoding of its entries, and the bytes from its first entry on.
     fn list_at(&self, offset: u64) -> (ListFormat<'a>, &'a [u8])
         ensures { (entry_at result.0, result.1.now) ≡ list_at (unit_view self.now) offset }
     {
@@ -90,7 +91,8 @@ impl<'a> UnitRanges<'a> {
         (ListFormat::Rnglists(self.addresses), bytes)
     }
 
-    /// The ranges that `left` entries say at most of the list at an offset; `left` is then how many more may be read.
+    /// The ranges of the range list at an offset. At most `left` of its entries are read; `left` is reduced by those
+    /// that were used.
     fn listed_ranges(&self, offset: u64, left: &mut u128) -> Ranges<'a>
         ensures ranges { result ≡ listed_ranges (unit_view self.now) left.old (Some offset) }
         ensures left { left.new ≡ left_after_list (unit_view self.now) left.old (Some offset) }
@@ -101,7 +103,7 @@ impl<'a> UnitRanges<'a> {
         ranges
     }
 
-    /// The range from DW_AT_low_pc to DW_AT_high_pc, where the entry has both.
+    /// The range from DW_AT_low_pc to DW_AT_high_pc, if the entry has both.
     fn low_to_high(&self, entry: &RangeAttributes<'a>) -> Option<CodeRange>
         ensures { result ≡ low_to_high (unit_view self.now) (attributes_view entry.now) }
     {
@@ -110,9 +112,9 @@ impl<'a> UnitRanges<'a> {
         Some(CodeRange { low, high })
     }
 
-    /// The ranges of an entry: from DW_AT_low_pc to DW_AT_high_pc where it has both, and else those of the list that
-    /// DW_AT_ranges names. Of that list, `left` entries count at most, and `left` is then how many more may count. So
-    /// the lists of the entries of a unit are read at most twice that often, whatever lists they name.
+    /// The ranges of an entry: from DW_AT_low_pc to DW_AT_high_pc if it has both, else those of the range list that
+    /// DW_AT_ranges names. At most `left` entries of that list count; `left` is reduced by those that were used. So the
+    /// entries of a unit read at most twice as many entries of range lists, whatever lists they name.
     pub fn ranges_of(&self, entry: &RangeAttributes<'a>, left: &mut u128) -> Ranges<'a>
         ensures ranges { result ≡ entry_ranges (unit_view self.now) left.old (attributes_view entry.now) }
         ensures left { left.new ≡ left_after_entry (unit_view self.now) left.old (attributes_view entry.now) }

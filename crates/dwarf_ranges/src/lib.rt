@@ -1,19 +1,19 @@
-//! Which code of a program an entry or a unit of DWARF is of (DWARF 5, sections 2.17, 6.1.2 and 7.25), in the 32-bit
-//! format, with addresses of eight bytes.
+//! The code of an entry or of a unit of DWARF (DWARF 5, sections 2.17, 6.1.2 and 7.25), in the 32-bit format, with
+//! addresses of eight bytes.
 //!
-//! Damage refuses nothing: the first thing that cannot be read ends the list in which it stands, and what was read
-//! before it counts. Sums of addresses are modulo 2^64.
+//! Damage is no error: a list ends before the first item that cannot be read, and the items before it count. Sums of
+//! addresses are modulo 2^64.
 //!
-//! - `range`: [`CodeRange`]; `range_entry`: [`RangeEntry`], an entry of a list of ranges;
-//! - `addresses`: [`AddressTable`], addresses by their indexes;
-//! - `list_entries`: how the entries of `__debug_ranges` and `__debug_rnglists` are written; `dw_rle`: their kinds;
-//! - `range_lists`: [`Ranges`], the ranges of a list, one after another;
-//! - `unit_ranges`: [`UnitRanges`], where the ranges of a unit's entries stand; `entry_ranges`: those of an entry;
-//!   `assigned`: [`assign_ranges`], a value for pending addresses in ranges;
-//! - `arange`: [`Arange`], a tuple of `__debug_aranges`; `aranges`: [`Aranges`], all of them, one after another;
-//!   `one_pass`: [`first_tuples`], the first that has each of many addresses; `named_sets`:
-//!   [`named_units`], the units of all sets;
-//! - `laws`: what the definitions say of each other.
+//! - `range`: [`CodeRange`]; `range_entry`: [`RangeEntry`], an entry of a range list;
+//! - `addresses`: [`AddressTable`], addresses by index;
+//! - `list_entries`: the encoding of the entries of `__debug_ranges` and `__debug_rnglists`; `dw_rle`: their kinds;
+//! - `range_lists`: [`Ranges`], the ranges of a list, as an iterator;
+//! - `unit_ranges`: [`UnitRanges`], the sections and bases for the ranges of a unit's entries; `entry_ranges`: the
+//!   ranges of an entry; `assigned`: [`assign_ranges`], a value for pending addresses in ranges;
+//! - `arange`: [`Arange`], a tuple of `__debug_aranges`; `aranges`: [`Aranges`], all tuples, as an iterator;
+//!   `one_pass`: [`first_tuples`], the first tuple that contains each of many addresses; `named_sets`: [`named_units`],
+//!   the units of all sets;
+//! - `laws`: relations between the definitions.
 #![tactic(auto)]
 
 mod addresses;

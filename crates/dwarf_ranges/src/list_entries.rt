@@ -1,4 +1,4 @@
-//! The entries of lists of ranges, as they are written.
+//! The encoding of the entries of range lists.
 
 ghost use Rattle.std.specs.Prelude.{◌≡◌};
 ghost use Rattle.std.specs.Option.{option_map};
@@ -11,7 +11,7 @@ use crate::dw_rle::*;
 use crate::range_entry::RangeEntry;
 use dwarf_encoding::{u64_le_at, unsigned_leb128};
 
-/// What two numbers of `__debug_ranges` say.
+/// The entry of two numbers of `__debug_ranges`.
 fn pair_entry(begin: u64, end: u64) -> RangeEntry
     ensures { result ≡ pair_entry begin end }
 {
@@ -24,7 +24,8 @@ fn pair_entry(begin: u64, end: u64) -> RangeEntry
     }
 }
 
-/// The entry of `__debug_ranges` that begins the bytes, and the bytes after it; `None` if fewer than 16 are there.
+/// The entry of `__debug_ranges` that begins the bytes, and the bytes after it; `None` if there are fewer than 16
+/// bytes.
 #[tactic(auto, unfolding(crate::specs::ListEntries::debug_ranges_entry_at))]
 pub fn debug_ranges_entry(bytes: &[u8]) -> Option<(RangeEntry, &[u8])>
     ensures { option_map (λ x. (x.0, x.1.now)) result ≡ debug_ranges_entry_at bytes.now }
@@ -38,7 +39,7 @@ pub fn debug_ranges_entry(bytes: &[u8]) -> Option<(RangeEntry, &[u8])>
     ))
 }
 
-/// The address of eight bytes that begins the bytes, and the bytes after it.
+/// The eight-byte address that begins the bytes, and the bytes after it; `None` if there are fewer.
 #[tactic(auto, unfolding(crate::specs::ListEntries::address_here))]
 fn address_here(bytes: &[u8]) -> Option<(u64, &[u8])>
     ensures { option_map (λ x. (x.0, x.1.now)) result ≡ address_here bytes.now }
@@ -49,7 +50,7 @@ fn address_here(bytes: &[u8]) -> Option<(u64, &[u8])>
     Some((u64_le_at(bytes, 0), bytes.split_at(8).1))
 }
 
-/// A range between two addresses, which both have to be there.
+/// A range between two addresses; no range if one of them is missing.
 fn start_end(start: Option<u64>, end: Option<u64>) -> RangeEntry
     ensures { result ≡ start_end start end }
 {
@@ -59,7 +60,7 @@ fn start_end(start: Option<u64>, end: Option<u64>) -> RangeEntry
     }
 }
 
-/// A range of so many addresses, the first of which has to be there.
+/// A range of `size` addresses from `start` on; no range if `start` is missing.
 fn start_size(start: Option<u64>, size: u64) -> RangeEntry
     ensures { result ≡ start_size start size }
 {
@@ -69,7 +70,7 @@ fn start_size(start: Option<u64>, size: u64) -> RangeEntry
     }
 }
 
-/// The entry of a kind whose operands begin the bytes, and the bytes after it.
+/// The entry of a kind, whose operands begin the bytes, and the bytes after it.
 #[tactic(auto, unfolding(crate::specs::ListEntries::operands_at))]
 fn operands<'a>(
     addresses: &AddressTable<'a>,

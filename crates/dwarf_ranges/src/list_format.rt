@@ -1,8 +1,8 @@
-//! Where a list of ranges stands, and how its entries are written.
+//! The encoding of the entries of a range list.
 
 use crate::addresses::AddressTable;
 
-/// How the entries of a list are written.
+/// The encoding of the entries of a list.
 #[derive(Clone, Copy)]
 pub enum ListFormat<'a> {
     /// As in `__debug_ranges` (versions 2 to 4).

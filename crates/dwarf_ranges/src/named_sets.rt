@@ -21,8 +21,8 @@ fn add_unit(named: &mut BTreeSet<u64, Heap>, set: &[u8]) -> Result<(), NoMemory>
     Ok(())
 }
 
-/// The offsets of the units that sets of the section name, also those without tuples. A set that cannot be read names
-/// none. It takes the time and the memory of the sets.
+/// The offsets of the units that sets of the section name, also by sets without tuples. A set that cannot be read names
+/// none. Time and memory are proportional to the sets.
 pub fn named_units(heap: Heap, debug_aranges: &[u8]) -> Result<BTreeSet<u64, Heap>, NoMemory>
     ensures { IfOk result (λ named. (offset : ℕ) →
         tree_set.contains nat_cmp named offset ≡ is_named debug_aranges.now offset) }

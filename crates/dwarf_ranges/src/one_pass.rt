@@ -1,4 +1,4 @@
-//! The unit of each of many addresses, by `__debug_aranges`.
+//! The first tuple of `__debug_aranges` for each of many addresses.
 
 ghost use Rattle.std.specs.Prelude.{◌≡◌, ℕ, true, IfOk};
 ghost use Rattle.std.specs.Ordering.{nat_cmp};
@@ -13,7 +13,7 @@ use dwarf_asked_addresses::{assign_within, pending_addresses};
 use memory::{Heap, NoMemory};
 use std::collections::{BTreeMap, BTreeSet};
 
-/// The first tuple that has each pending address.
+/// The first tuple that contains each pending address.
 fn assign_all(
     heap: Heap,
     tuples: Aranges<'_>,
@@ -30,8 +30,8 @@ fn assign_all(
     Ok(found)
 }
 
-/// The first tuple that has each of the addresses, under the address, or none. It takes the time of the tuples, and of
-/// finding each address among those that have none yet, and the memory of the addresses.
+/// The first tuple that contains each address, by the address; no tuple if none does. The time is that of reading the
+/// tuples, and of a search for each address among those that have none yet; the memory is that of the addresses.
 pub fn first_tuples(
     heap: Heap,
     tuples: Aranges<'_>,

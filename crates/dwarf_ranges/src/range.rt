@@ -10,7 +10,7 @@ pub struct CodeRange {
 }
 
 impl CodeRange {
-    /// Whether the range has an address.
+    /// Whether the range contains an address.
     pub fn contains(&self, address: u64) -> bool
         ensures { result ≡ (nat_le self.now.low address && nat_lt address self.now.high) }
     {

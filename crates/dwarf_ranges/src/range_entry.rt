@@ -1,16 +1,16 @@
-//! An entry of a list of ranges.
+//! An entry of a range list.
 
-/// What an entry of a list of ranges says (DWARF 5, section 2.17.3).
+/// The meaning of an entry of a range list (DWARF 5, section 2.17.3).
 #[derive(Clone, Copy)]
 pub enum RangeEntry {
-    /// The list ends.
+    /// The end of the list.
     EndOfList,
-    /// Offsets of the entries after it count from this address.
+    /// The base address for the entries after this one.
     BaseAddress(u64),
     /// A range whose ends are offsets from the base address.
     OffsetPair(u64, u64),
     /// A range whose ends are addresses.
     StartEnd(u64, u64),
-    /// A range of which an indexed address is not there: none.
+    /// No range, because an indexed address is missing.
     NoRange,
 }

@@ -1,4 +1,4 @@
-//! The ranges of a list, one after another.
+//! The ranges of a list, as an iterator.
 
 ghost use Rattle.std.specs.Prelude.{◌≡◌, ◌++◌, [], ◌∷◌};
 ghost use Rattle.std.specs.Option.{option_map, option_to_list};
@@ -11,15 +11,15 @@ use crate::range::CodeRange;
 use crate::range_entry::RangeEntry;
 use std::marker::Model;
 
-/// Ranges of addresses, one after another: one that is known, and those of a list. It takes no memory. A contract sees
-/// the list of those that are left.
+/// Ranges of addresses, as an iterator: one known range, if there is one, and those of a list. It allocates no memory.
+/// A contract sees the list of the ranges that are left.
 #[derive(Drop)]
 pub struct Ranges<'a> {
     first: Option<CodeRange>,
     format: ListFormat<'a>,
     base: u64,
     rest: &'a [u8],
-    /// How many entries of the list are still read.
+    /// The number of entries of the list that may still be read.
     left: u128,
 }
 
@@ -46,7 +46,7 @@ impl<'a> ListFormat<'a> {
         }
     }
 
-    /// How many entries are left of so many after those of the list that begins the bytes.
+    /// The number of entries that are left of `left` after the list that begins the bytes.
     pub fn left_after(&self, mut left: u128, bytes: &'a [u8]) -> u128
         ensures { result ≡ left_after (entry_at self.now) left bytes.now }
     {
@@ -65,7 +65,7 @@ impl<'a> ListFormat<'a> {
     }
 }
 
-/// The range that an entry says, if it says one.
+/// The range of an entry; `None` if it has none.
 fn range_of(base: u64, entry: RangeEntry) -> Option<CodeRange>
     ensures { option_to_list result ≡ range_of base entry }
 {
@@ -86,7 +86,7 @@ fn is_end(entry: RangeEntry) -> bool
     matches!(entry, RangeEntry::EndOfList)
 }
 
-/// The base address of the entries after one.
+/// The base address after an entry.
 fn base_after(base: u64, entry: RangeEntry) -> u64
     ensures { result ≡ base_after base entry }
 {
@@ -119,8 +119,8 @@ impl<'a> Ranges<'a> {
         }
     }
 
-    /// The ranges of the list that begins the bytes, by the base address of its unit, of which so many entries are read
-    /// at most.
+    /// The ranges of the list that begins the bytes; `base` is the base address of its unit, and at most `left` entries
+    /// are read.
     pub fn of(format: ListFormat<'a>, base: u64, bytes: &'a [u8], left: u128) -> Ranges<'a>
         ensures { result ≡ ranges_within (entry_at format.entry) left base bytes.now }
     {

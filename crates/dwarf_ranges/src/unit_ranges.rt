@@ -1,9 +1,9 @@
-//! Where the ranges of the entries of a unit stand.
+//! The sections and bases from which the ranges of a unit's entries are read.
 
 use crate::addresses::AddressTable;
 use dwarf_encoding::Value;
 
-/// Where the ranges of the entries of a unit stand.
+/// The sections and bases from which the ranges of a unit's entries are read.
 #[derive(Clone, Copy)]
 pub struct UnitRanges<'a> {
     /// The version of the unit, 2 to 5.
@@ -17,7 +17,7 @@ pub struct UnitRanges<'a> {
     pub base: u64,
 }
 
-/// What an entry has of the attributes that say its ranges.
+/// The attributes of an entry that state its ranges.
 #[derive(Clone, Copy)]
 pub struct RangeAttributes<'a> {
     /// DW_AT_low_pc.

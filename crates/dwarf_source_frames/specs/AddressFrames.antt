@@ -16,8 +16,8 @@ use Rattle.dwarf_source_frames.specs.UnitLines.{LinesRecord, lines_of}
 unfoldable pub rows_of : LinesRecord → List Row
 rows_of lines = option_map_or (λ p. rows_from p.header initial p.bytes) lines.program []
 
--- the frames of an address in a unit, the innermost first: those of the calls among the function entries that contain it
--- and of the row that covers it
+-- the frames of an address in a unit, the innermost first: those of the calls among the function entries that contain
+-- it, and of the row that covers it
 pub record AreFramesInUnit (sections : DebugSectionsRecord) (unit : UnitRecord) (address : ℕ)
     (frames : List FrameRecord) : Type 0 where
   pub chain : List EntryRecord
@@ -26,12 +26,12 @@ pub record AreFramesInUnit (sections : DebugSectionsRecord) (unit : UnitRecord) 
   pub covers : IsCovering (rows_of (lines_of sections unit)) address row
   pub are_frames : AreFramesOfChain sections (lines_of sections unit) unit (calls_of (reverse chain)) row frames
 
--- an address without a unit has none
+-- an address without a unit has no frames
 abbrev pub AreFramesIn : DebugSectionsRecord → Option UnitRecord → ℕ → List FrameRecord → Type 0
 AreFramesIn sections None address frames = frames ≡ []
 AreFramesIn sections (Some unit) address frames = AreFramesInUnit sections unit address frames
 
--- the frames of an address by some sections: those in its unit
+-- the frames of an address according to these sections: those in its unit
 pub record AreFramesBy (sections : DebugSectionsRecord) (address : ℕ) (frames : List FrameRecord) : Type 0 where
   pub place : Option ℕ
   pub is_unit : IsUnitOf sections address place

@@ -6,16 +6,16 @@ use Rattle.std.specs.Cmp.Lexicographic.{pointwise}
 use Rattle.dwarf_encoding.specs.LittleEndian.{u32_le_at}
 use Rattle.macho_image.specs.Sections.{SectionRecord, sections}
 
--- the section of this name in the segment __DWARF
+-- the section has this name, in the segment __DWARF
 abbrev pub is_named : List ℕ → SectionRecord → Bool
 is_named name section = pointwise nat_eq section.segment (codes "__DWARF") && pointwise nat_eq section.section name
 
--- the bytes of a section: section_64.offset, at 48, is where they begin in the image; past the end of the image there
--- are none
+-- the bytes of a section: section_64.offset, at byte 48, is the offset of its first byte in the image; a section past
+-- the end of the image is empty
 abbrev pub section_bytes : List ℕ → SectionRecord → List ℕ
 section_bytes image section = take section.size (drop (u32_le_at image (section.offset + 48)) image)
 
--- the bytes of the first section of a name, or none
+-- the bytes of the first section with this name; empty if there is none
 unfoldable pub debug_section : List ℕ → List ℕ → List ℕ
 debug_section image name =
     option_map_or (λ section. section_bytes image section) (find (is_named name) (sections image)) []

@@ -9,7 +9,7 @@ use Rattle.dwarf_source_frames.specs.Frames.{FrameRecord}
 use Rattle.dwarf_source_frames.specs.declared.unit_lines.UnitLines.{UnitLines}
 use Rattle.dwarf_source_frames.specs.declared.frame.SourceFrame.{SourceFrame}
 
--- a unit's texts, names and program, without where they lie
+-- a unit's texts, names and program, without their addresses in memory
 abbrev pub lines_view : UnitLines → LinesRecord
 lines_view l =
     record {
@@ -19,7 +19,7 @@ lines_view l =
       program = option_map program_view l.program;
     }
 
--- a frame, without where its texts lie
+-- a frame, without the addresses of its texts in memory
 abbrev pub frame_view : SourceFrame → FrameRecord
 frame_view f =
     record {

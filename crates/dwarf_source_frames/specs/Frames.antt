@@ -1,4 +1,4 @@
--- The frames of an address, of which the entries and the row are known (DWARF 5, sections 2.14, 3.3.8.2 and 6.2.2).
+-- The frames of an address from its entries and its row (DWARF 5, sections 2.14, 3.3.8.2 and 6.2.2).
 use Rattle.std.specs.Prelude.{ℕ, List, [], ◌∷◌, ◌≡◌, ◌^◌, nat_lt, if◌then◌else◌, Option, Some, None}
 use Rattle.std.specs.Option.{option_and_then}
 use Rattle.dwarf_encoding.specs.Values.{ValueRecord, Constant}
@@ -11,28 +11,28 @@ use Rattle.dwarf_source_frames.specs.Names.{IsName}
 use Rattle.dwarf_source_frames.specs.UnitLines.{LinesRecord}
 use Rattle.dwarf_source_frames.specs.declared.frame.SourceLocation.{SourceLocation}
 
--- a frame: the name of its function, and the path, the line and the column at which it stands
+-- a frame: the name of its function, and its path, line and column
 pub record FrameRecord : Type 0 where
   pub name : Option (List ℕ)
   pub path : Option PathRecord
   pub line : ℕ
   pub column : ℕ
 
--- a constant, or 0
+-- the constant that a value is; 0 if it is none
 abbrev pub constant_or_zero : Option ValueRecord → ℕ
 constant_or_zero (Some (Constant n)) = n
 constant_or_zero _ = 0
 
--- a constant
+-- the constant that a value is
 abbrev pub constant_of : Option ValueRecord → Option ℕ
 constant_of (Some (Constant n)) = Some n
 constant_of _ = None
 
--- a line or a column; one of 2^32 or more is not known: 0
+-- a line or a column; 0, which means unknown, for 2^32 and more
 abbrev pub known_number : ℕ → ℕ
 known_number n = if nat_lt n (2 ^ 32) then n else 0
 
--- the location of a row, or none
+-- the location of a row; unknown without a row
 abbrev pub location_of_row : Option Row → SourceLocation
 location_of_row None = record { file = None; line = 0; column = 0 }
 location_of_row (Some row) =
@@ -42,7 +42,7 @@ location_of_row (Some row) =
       column = known_number row.registers.column;
     }
 
--- the location of the call that an entry is: DW_AT_call_file, DW_AT_call_line and DW_AT_call_column
+-- the location of the call that an entry describes: DW_AT_call_file, DW_AT_call_line and DW_AT_call_column
 abbrev pub location_of_call : EntryRecord → SourceLocation
 location_of_call entry =
     record {
@@ -51,7 +51,7 @@ location_of_call entry =
       column = known_number (constant_or_zero entry.attributes.call_column);
     }
 
--- the path of a file, by the names of the program
+-- the path of a file among the names of the program
 abbrev pub path_in : LinesRecord → Option ℕ → Option PathRecord
 path_in lines file =
     option_and_then (λ n. option_and_then (λ names. parts_of lines.texts lines.comp_dir names n) lines.names) file
@@ -65,8 +65,8 @@ pub record IsFrame (sections : DebugSectionsRecord) (lines : LinesRecord) (e : U
   pub line : frame.line ≡ location.line
   pub column : frame.column ≡ location.column
 
--- the frames of entries, the innermost first, which is at a location; each further one is at the call that the one
--- before it is
+-- the frames of entries, the innermost first, which has the given location; each other frame has the location of the
+-- call that the entry before it describes
 abbrev pub AreFramesFrom :
     DebugSectionsRecord → LinesRecord → UnitRecord → SourceLocation → List EntryRecord → List FrameRecord → Type 0
 AreFramesFrom sections lines unit location [] frames = frames ≡ []
@@ -75,7 +75,7 @@ AreFramesFrom sections lines unit location (e ∷ es) (f ∷ fs) =
     IsFrame sections lines (record { unit = unit; entry = e }) location f
     × AreFramesFrom sections lines unit (location_of_call e) es fs
 
--- the frame of a row alone
+-- the frame of a row alone, which has no function
 abbrev pub frame_of_row : LinesRecord → Row → FrameRecord
 frame_of_row lines row =
     record {
@@ -85,8 +85,7 @@ frame_of_row lines row =
       column = known_number row.registers.column;
     }
 
--- the frames of the entries of an address and of its row: without an entry there is one without a name, if there is a
--- row
+-- the frames of the entries of an address and of its row: if there is no entry, a row has one frame without a name
 abbrev pub AreFramesOfChain :
     DebugSectionsRecord → LinesRecord → UnitRecord → List EntryRecord → Option Row → List FrameRecord → Type 0
 AreFramesOfChain sections lines unit [] None frames = frames ≡ []

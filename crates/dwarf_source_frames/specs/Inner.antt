@@ -1,4 +1,4 @@
--- Steps to the units of addresses: the words of inner functions. No contract of a public one has them.
+-- Steps to the units of addresses: definitions of inner functions. No contract of a public function uses them.
 use Rattle.std.specs.Prelude.{ℕ, List, ◌≡◌, ◌<◌, length, slice_index, true, Some, None}
 use Rattle.std.specs.Ordering.{nat_cmp}
 use Rattle.std.specs.BTreeMap as tree_map
@@ -8,11 +8,11 @@ use Rattle.dwarf_ranges.specs.declared.arange.Arange.{Arange}
 use Rattle.dwarf_source_frames.specs.DebugSections.{DebugSectionsRecord}
 use Rattle.dwarf_source_frames.specs.UnitAddresses.{place_by_tuple}
 
--- the set has the offsets of the units that sets of __debug_aranges name
+-- the set is that of the offsets of the units that sets of __debug_aranges name
 pub record AreNamedUnits (section : List ℕ) (named : tree_set.BTreeSet ℕ) : Type 0 where
   pub each : (offset : ℕ) → tree_set.contains nat_cmp named offset ≡ is_named section offset
 
--- each of the addresses has the place that its tuple names, and is pending if that names none
+-- each address has the offset of the unit that its tuple names, or is pending if its tuple names none
 pub record ArePlacesByTuples (sections : DebugSectionsRecord) (tuples : tree_map.BTreeMap ℕ Arange) (addresses : List ℕ)
     (places : tree_map.BTreeMap ℕ ℕ) (pending : tree_set.BTreeSet ℕ) : Type 0 where
   pub place_of : (i : ℕ) → i < length addresses →

@@ -9,7 +9,7 @@ pub mod Frames
 pub mod FrameViews
 pub mod Scopes
 pub mod UnitAddresses
--- the words of inner functions: no contract of a public one has them
+-- definitions of inner functions: no contract of a public function uses them
 pub mod Inner
 pub mod AddressFrames
 pub mod ByUnit

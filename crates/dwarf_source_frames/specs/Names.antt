@@ -6,7 +6,7 @@ use Rattle.dwarf_encoding.specs.TextSections.{text_of}
 use Rattle.dwarf_source_frames.specs.DebugSections.{DebugSectionsRecord}
 use Rattle.dwarf_source_frames.specs.DebugUnits.{UnitEntryRecord, texts_of, place_of, IsEntryAt}
 
--- an empty text is as none
+-- an empty text counts as none
 abbrev pub some_text : List ℕ → Option (List ℕ)
 some_text text = if length text == 0 then None else Some text
 
@@ -15,25 +15,25 @@ unfoldable pub text_in : DebugSectionsRecord → UnitEntryRecord → Option Valu
 text_in sections e value =
     option_and_then (λ text. some_text text) (option_and_then (text_of (texts_of sections e.unit)) value)
 
--- DW_AT_linkage_name, and else DW_AT_MIPS_linkage_name
+-- the text of DW_AT_linkage_name, else of DW_AT_MIPS_linkage_name
 unfoldable pub linkage_name : DebugSectionsRecord → UnitEntryRecord → Option (List ℕ)
 linkage_name sections e =
     option_or
     (text_in sections e e.entry.attributes.linkage_name)
     (text_in sections e e.entry.attributes.mips_linkage_name)
 
--- the place that DW_AT_abstract_origin names, and else DW_AT_specification
+-- the offset that DW_AT_abstract_origin names, else that of DW_AT_specification
 unfoldable pub origin_place : UnitEntryRecord → Option ℕ
 origin_place e =
     option_and_then (place_of e.unit) (option_or e.entry.attributes.abstract_origin e.entry.attributes.specification)
 
--- the entry there, for which so many bytes are read at most, and how many of these are left
+-- the entry that an entry refers to, if it can be read within `room` bytes, and how many of those bytes are left
 abbrev pub IsOrigin : ℕ → DebugSectionsRecord → UnitEntryRecord → Option (UnitEntryRecord × ℕ) → Type 0
 IsOrigin room sections e found =
     MatchOption (origin_place e) (found ≡ None) (λ place. IsEntryAt room sections place found)
 
--- the name of an entry and of those that it leads to, at most so many, for which so many bytes are read at most: the
--- first linkage name, and else the first DW_AT_name, of which one may be known before
+-- the name of an entry, from at most `count` entries: itself and those that it refers to, which have at most `room`
+-- bytes: the first linkage name, else the first DW_AT_name; `before` is a name that is known already
 abbrev pub IsNameWithin :
     ℕ → ℕ → DebugSectionsRecord → UnitEntryRecord → Option (List ℕ) → Option (List ℕ) → Type 0
 IsNameWithin zero room sections e before name = name ≡ before
@@ -45,7 +45,7 @@ IsNameWithin (suc count) room sections e before name =
     (λ o. IsNameWithin count o.1 sections o.0 (option_or before (text_in sections e e.entry.attributes.name)) name))
     (λ linkage. name ≡ Some linkage)
 
--- the name of an entry, of the 16 first ones on the way: those after it and the first entries of their units have 16,384
--- bytes together
+-- the name of an entry, from itself and those that it refers to, 16 at most: those after the first, and the first
+-- entries of their units, have at most 16,384 bytes together
 abbrev pub IsName : DebugSectionsRecord → UnitEntryRecord → Option (List ℕ) → Type 0
 IsName sections e name = IsNameWithin 16 16384 sections e None name

@@ -1,8 +1,8 @@
--- The DWARF sections of the code, as the definitions have them.
+-- The DWARF sections in the code, as the definitions have them.
 use Rattle.dwarf_source_frames.specs.DebugSections.{DebugSectionsRecord}
 use Rattle.dwarf_source_frames.specs.declared.debug_sections.DebugSections.{DebugSections}
 
--- the sections, without where they lie
+-- the sections, without their addresses in memory
 abbrev pub sections_view : DebugSections → DebugSectionsRecord
 sections_view s =
     record {

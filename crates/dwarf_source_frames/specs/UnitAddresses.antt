@@ -22,27 +22,28 @@ abbrev pub place_by_tuple : DebugSectionsRecord → Option Arange → Option ℕ
 place_by_tuple sections tuple =
     option_and_then (λ t. option_map (λ unit. unit.offset) (read_unit sections t.debug_info_offset)) tuple
 
--- the ranges of a unit at an offset that no set of __debug_aranges names: those of its first entry, if it can be read
+-- the ranges of the first entry of a unit at an offset, if it can be read; none if a set of __debug_aranges names the
+-- unit
 unfoldable pub own_ranges : DebugSectionsRecord → ℕ → List ℕ → List CodeRange
 own_ranges sections offset bytes =
     if is_named sections.debug_aranges offset then []
     else option_map_or (first_ranges sections) (unit_of_bytes sections.debug_abbrev offset bytes) []
 
--- the offset of the first unit that has an address in these ranges
+-- the offset of the first unit whose own ranges contain an address
 abbrev pub place_by_ranges : DebugSectionsRecord → ℕ → Option ℕ
 place_by_ranges sections address =
     option_map
     (λ u. u.0)
     (find (λ u. in_ranges address (own_ranges sections u.0 u.1)) (placed unit_at sections.debug_info))
 
--- the offset of the unit of an address: of the one that the first tuple names that has it, and else of the first that
--- has it in ranges of its own
+-- the offset of the unit of an address: the unit that the first tuple with the address names, else the first unit whose
+-- own ranges contain it
 abbrev pub IsUnitOf : DebugSectionsRecord → ℕ → Option ℕ → Type 0
 IsUnitOf sections address place =
     (tuple : Option Arange) × IsFirstTuple (aranges_of sections.debug_aranges) address tuple
     × (place ≡ option_or (place_by_tuple sections tuple) (place_by_ranges sections address))
 
--- for each address its unit, or none
+-- each address has its unit, or none
 pub record AreUnitsOf (sections : DebugSectionsRecord) (addresses : List ℕ) (places : List (Option ℕ)) : Type 0 where
   pub len : length places ≡ length addresses
   pub each : (i : ℕ) → i < length addresses →

@@ -1,4 +1,4 @@
--- The places of the ranges of a unit's entries, and of those of its first entry (DWARF 5, sections 2.17 and 3.1.1).
+-- The ranges of a unit's entries, and of its first entry (DWARF 5, sections 2.17 and 3.1.1).
 use Rattle.std.specs.Prelude.{ℕ, List, length, ◌*◌}
 use Rattle.std.specs.Option.{option_and_then, unwrap_or}
 use Rattle.dwarf_entries.specs.Entries.{EntryRecord}
@@ -8,8 +8,8 @@ use Rattle.dwarf_ranges.specs.declared.range.CodeRange.{CodeRange}
 use Rattle.dwarf_source_frames.specs.DebugSections.{DebugSectionsRecord}
 use Rattle.dwarf_source_frames.specs.DebugUnits.{UnitRecord, offset_or}
 
--- the addresses of a unit by their indexes: its part of __debug_addr begins at DW_AT_addr_base, or after a header of
--- eight bytes
+-- the addresses of a unit by index: its part of __debug_addr begins at DW_AT_addr_base, or after a header of eight
+-- bytes
 abbrev pub addresses_of : DebugSectionsRecord → UnitRecord → AddressesRecord
 addresses_of sections unit =
     record { debug_addr = sections.debug_addr; addr_base = offset_or unit.first.attributes.addr_base 8 }
@@ -18,8 +18,8 @@ addresses_of sections unit =
 abbrev pub base_address : AddressesRecord → UnitRecord → ℕ
 base_address addresses unit = unwrap_or (option_and_then (address_of addresses) unit.first.attributes.low_pc) 0
 
--- where the ranges of the entries of a unit stand: its offsets of lists begin at DW_AT_rnglists_base, or after a header
--- of twelve bytes
+-- the sections and bases from which the ranges of a unit's entries are read: its offsets of lists begin at
+-- DW_AT_rnglists_base, or after a header of twelve bytes
 abbrev pub unit_ranges_of : DebugSectionsRecord → UnitRecord → UnitRangesRecord
 unit_ranges_of sections unit =
     record {
@@ -31,7 +31,7 @@ unit_ranges_of sections unit =
       base = base_address (addresses_of sections unit) unit;
     }
 
--- what an entry has of DW_AT_low_pc, DW_AT_high_pc and DW_AT_ranges
+-- DW_AT_low_pc, DW_AT_high_pc and DW_AT_ranges of an entry
 abbrev pub range_attributes : EntryRecord → RangeAttributesRecord
 range_attributes entry =
     record {
@@ -40,7 +40,7 @@ range_attributes entry =
       ranges = entry.attributes.ranges;
     }
 
--- how many entries of lists count for the entries of a unit: four for each of its bytes
+-- the largest number of entries of range lists that count for a unit's entries: four for each byte of the unit
 abbrev pub entries_of_lists : UnitRecord → ℕ
 entries_of_lists unit = 4 * length unit.bytes
 

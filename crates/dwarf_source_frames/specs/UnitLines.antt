@@ -16,7 +16,7 @@ pub record LinesRecord : Type 0 where
   pub names : Option NamesRecord
   pub program : Option ProgramRecord
 
--- the offset in __debug_line that DW_AT_stmt_list names; before version 4 a constant is one
+-- the offset in __debug_line that DW_AT_stmt_list names; before version 4 a constant is an offset too
 abbrev pub program_offset : UnitRecord → Option ValueRecord → Option ℕ
 program_offset unit (Some (SectionOffset offset)) = Some offset
 program_offset unit (Some (Constant offset)) = if nat_lt unit.header.version 4 then Some offset else None
@@ -27,7 +27,7 @@ unfoldable pub line_unit : DebugSectionsRecord → UnitRecord → Option (List �
 line_unit sections unit =
     option_and_then (unit_of sections.debug_line) (program_offset unit unit.first.attributes.stmt_list)
 
--- the text of DW_AT_comp_dir; none is empty
+-- the text of DW_AT_comp_dir; empty if there is none
 unfoldable pub comp_dir_of : DebugSectionsRecord → UnitRecord → List ℕ
 comp_dir_of sections unit =
     unwrap_or (option_and_then (text_of (texts_of sections unit)) unit.first.attributes.comp_dir) []

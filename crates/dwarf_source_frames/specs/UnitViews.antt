@@ -1,10 +1,10 @@
--- Units and their entries of the code, as the definitions have them.
+-- Units and entries in the code, as the definitions have them.
 use Rattle.dwarf_entries.specs.EntryViews.{entry_view}
 use Rattle.dwarf_source_frames.specs.DebugUnits.{UnitRecord, UnitEntryRecord}
 use Rattle.dwarf_source_frames.specs.declared.debug_unit.DebugUnit.{DebugUnit}
 use Rattle.dwarf_source_frames.specs.declared.debug_unit.UnitEntry.{UnitEntry}
 
--- a unit, without where its bytes lie
+-- a unit, without the address of its bytes in memory
 abbrev pub unit_view : DebugUnit → UnitRecord
 unit_view u = record { offset = u.offset; bytes = u.bytes.now; header = u.header; first = entry_view u.first }
 

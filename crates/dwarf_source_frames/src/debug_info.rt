@@ -1,4 +1,4 @@
-//! The entries of `__debug_info` by their places.
+//! The entries of `__debug_info` by their offsets.
 
 ghost use Rattle.std.specs.Prelude.{◌≡◌, ◌≤◌, IfOk, IfSome};
 ghost use Rattle.std.specs.Option.{option_map};
@@ -11,7 +11,7 @@ ghost use Rattle.dwarf_source_frames.specs.UnitViews.{unit_view, unit_entry_view
 use crate::debug_sections::DebugSections;
 use crate::debug_unit::{DebugUnit, UnitEntry};
 use dwarf_encoding::{Units, Value};
-use dwarf_entries::{Abbreviations, entry_of};
+use dwarf_entries::{Abbreviations, entry_within};
 use macho_image::Image;
 use memory::{Heap, NoMemory};
 
@@ -26,8 +26,9 @@ pub struct DebugInfo<'a> {
     ghost abbreviations_are: { abbreviations ≡ sections.debug_abbrev.now },
 }
 
-/// The entry at a place of `__debug_info`, of the unit that has the place, for which at most `room` bytes are read, and
-/// how many of these are left.
+/// The entry at an offset of `__debug_info`, in the unit that contains the offset, and the number of bytes left of
+/// `room`, the most bytes to read for the unit's first entry and this one; `None` if no unit contains the offset, or
+/// these entries cannot be read or have more bytes.
 #[tactic(auto, unfolding(crate::specs::DebugUnits::entry_with))]
 fn entry_with<'a>(
     abbreviations: &Abbreviations<'a>,
@@ -41,7 +42,7 @@ fn entry_with<'a>(
 {
     let (offset, bytes) = found?;
     let (unit, room) = DebugUnit::read_within(abbreviations, offset, bytes, room)?;
-    let (entry, left) = entry_of(
+    let (entry, left) = entry_within(
         abbreviations,
         &unit.header,
         unit.bytes,
@@ -52,7 +53,7 @@ fn entry_with<'a>(
 }
 
 impl<'a> DebugUnit<'a> {
-    /// The place in `__debug_info` that a reference of this unit names; `None` for a value of another class.
+    /// The offset in `__debug_info` that a reference of this unit names; `None` for a value of another class.
     pub fn place_of(&self, value: &Value<'a>) -> Option<u64>
         ensures { result ≡ place_of (unit_view self.now) (value_view value.now) }
     {
@@ -65,7 +66,7 @@ impl<'a> DebugUnit<'a> {
 }
 
 impl<'a> DebugInfo<'a> {
-    /// The DWARF of an image. It takes the time and the memory of its units and declarations.
+    /// The DWARF of an image. Time and memory are proportional to its units and declarations.
     pub fn read(heap: Heap, image: &Image<'a>) -> Result<DebugInfo<'a>, NoMemory>
         ensures { IfOk result (λ info. sections_view info.sections ≡ debug_sections image.now) }
     {
@@ -79,8 +80,8 @@ impl<'a> DebugInfo<'a> {
         })
     }
 
-    /// The entry at a place of `__debug_info`, and how many of `room` bytes are left after it and the first entry of its
-    /// unit; `None` if no unit has the place, or these entries cannot be read or have more bytes.
+    /// The entry at an offset of `__debug_info`, and the number of bytes left of `room` after this entry and the first
+    /// entry of its unit; `None` if no unit contains the offset, or these entries cannot be read or have more bytes.
     pub fn entry_at(&self, place: u64, room: usize) -> Option<(UnitEntry<'a>, usize)>
         ensures { IsEntryAt room (sections_view self.now.sections) place
             (option_map (λ x. (unit_entry_view x.0, x.1)) result) }

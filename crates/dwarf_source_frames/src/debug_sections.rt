@@ -8,14 +8,14 @@ ghost use Rattle.dwarf_source_frames.specs.SectionsViews.{sections_view};
 use dwarf_encoding::u32_le_at;
 use macho_image::{Image, Section};
 
-/// The segment in which a companion has its DWARF.
+/// The segment of a companion's DWARF sections.
 const DWARF_SEGMENT: &[u8] = b"__DWARF";
 
-/// Where `section_64` has the offset of the section's bytes.
+/// The offset in `section_64` of the field `offset`, the offset of the section's bytes.
 const SECTION_64_OFFSET: usize = 48;
 
-/// The DWARF sections of an image, each empty if the image has none of its name. The fields have their names, which
-/// are cut to 16 bytes.
+/// The DWARF sections of an image. A section that the image lacks is empty. The fields have the names of the sections,
+/// which are cut to 16 bytes.
 #[derive(Clone, Copy)]
 pub struct DebugSections<'a> {
     pub debug_info: &'a [u8],
@@ -30,14 +30,14 @@ pub struct DebugSections<'a> {
     pub debug_rnglists: &'a [u8],
 }
 
-/// Whether a section is the one of this name.
+/// Whether a section has this name.
 fn is_named(section: &Section<'_>, name: &[u8]) -> bool
     ensures { result ≡ is_named name.now (section_view section.now) }
 {
     section.segment == DWARF_SEGMENT && section.section == name
 }
 
-/// The bytes of a section, as many as the image has.
+/// The bytes of a section, up to the end of the image.
 fn section_bytes<'a>(image: &'a [u8], section: &Section<'a>) -> &'a [u8]
     requires { section.now.offset + 80 ≤ length image.now }
     ensures { result.now ≡ section_bytes image.now (section_view section.now) }
@@ -47,7 +47,7 @@ fn section_bytes<'a>(image: &'a [u8], section: &Section<'a>) -> &'a [u8]
     from.split_at(from.len().min(section.size as usize)).0
 }
 
-/// The bytes of the first section of a name, or none.
+/// The bytes of the first section with this name; empty if there is none.
 #[tactic(auto, unfolding(crate::specs::DebugSections::debug_section))]
 fn debug_section<'a>(image: &Image<'a>, name: &[u8]) -> &'a [u8]
     ensures { result.now ≡ debug_section image.now name.now }

@@ -1,4 +1,4 @@
-//! The units that are read, and the entries at their places.
+//! The units that are read, and the entries at their offsets.
 
 ghost use Rattle.std.specs.Prelude.{◌≡◌, ◌≤◌, IfSome, length};
 ghost use Rattle.std.specs.Option.{option_map};
@@ -10,20 +10,20 @@ ghost use Rattle.dwarf_source_frames.specs.UnitViews.{unit_view};
 
 use crate::debug_sections::DebugSections;
 use dwarf_encoding::{TextSections, Value};
-use dwarf_entries::{Abbreviations, Attribute, Entry, UnitHeader, entry_of};
+use dwarf_entries::{Abbreviations, Attribute, Entry, UnitHeader, entry_within};
 
-/// How many bytes of the first entry of a unit are read at most.
+/// The largest number of bytes to read for the first entry of a unit.
 const FIRST_ENTRY_MAX: usize = 16 * 1024;
 
 /// A unit whose header and first entry can be read.
 #[derive(Clone, Copy)]
 pub struct DebugUnit<'a> {
-    /// Its offset in `__debug_info`.
+    /// The offset of the unit in `__debug_info`.
     pub offset: u64,
-    /// Its bytes, with its `unit_length`.
+    /// The bytes of the unit, with its `unit_length`.
     pub bytes: &'a [u8],
     pub header: UnitHeader,
-    /// Its first entry, which has the attributes of the whole unit.
+    /// The first entry, which has the attributes of the whole unit.
     pub first: Entry<'a>,
 }
 
@@ -34,7 +34,7 @@ pub struct UnitEntry<'a> {
     pub entry: Entry<'a>,
 }
 
-/// The offset that an attribute names, or another one.
+/// The offset in another section that an attribute names; `default` if it names none.
 pub(crate) fn offset_or(value: Option<Value<'_>>, default: u64) -> u64
     ensures { result ≡ offset_or (option_map value_view value.entry) default }
 {
@@ -45,8 +45,8 @@ pub(crate) fn offset_or(value: Option<Value<'_>>, default: u64) -> u64
 }
 
 impl<'a> DebugUnit<'a> {
-    /// The unit of some bytes at an offset, of whose first entry at most `room` bytes are read, and how many of these
-    /// are left; `None` if its header or its first entry cannot be read.
+    /// The unit with these bytes at an offset, and the number of bytes left of `room`, the most bytes to read for its
+    /// first entry; `None` if its header or its first entry cannot be read.
     #[tactic(auto, unfolding(crate::specs::DebugUnits::unit_within))]
     pub(crate) fn read_within(
         abbreviations: &Abbreviations<'a>,
@@ -60,7 +60,7 @@ impl<'a> DebugUnit<'a> {
     {
         let header = UnitHeader::of(bytes)?;
         let start = header.entries_offset as u64;
-        let (first, left) = entry_of(abbreviations, &header, bytes, start, room)?;
+        let (first, left) = entry_within(abbreviations, &header, bytes, start, room)?;
         let unit = DebugUnit {
             offset,
             bytes,
@@ -70,7 +70,7 @@ impl<'a> DebugUnit<'a> {
         Some((unit, left))
     }
 
-    /// The unit of some bytes at an offset; `None` if its header or its first entry cannot be read.
+    /// The unit with these bytes at an offset; `None` if its header or its first entry cannot be read.
     #[tactic(auto, unfolding(crate::specs::DebugUnits::unit_of_bytes))]
     pub fn read(
         abbreviations: &Abbreviations<'a>,
@@ -84,7 +84,7 @@ impl<'a> DebugUnit<'a> {
         Some(unit)
     }
 
-    /// The sections of texts, for this unit.
+    /// The sections of texts, as this unit reads them.
     pub fn texts(&self, sections: &DebugSections<'a>) -> TextSections<'a>
         ensures { text_sections_view result ≡ texts_of (sections_view sections.now) (unit_view self.now) }
     {

@@ -1,4 +1,4 @@
-//! Frames, and where they stand.
+//! Frames and their source locations.
 
 ghost use Rattle.std.specs.Prelude.{◌≡◌};
 ghost use Rattle.std.specs.Option.{option_map};
@@ -15,10 +15,10 @@ use dwarf_encoding::Value;
 use dwarf_entries::{Attribute, Entry};
 use dwarf_lines::{PathParts, Row};
 
-/// Where a frame stands.
+/// The source location of a frame.
 #[derive(Clone, Copy)]
 pub struct SourceLocation {
-    /// The index of a file, by the names of the unit's program.
+    /// The index of a file among the names of the unit's program.
     pub file: Option<u64>,
     /// A line, from 1 on; 0 if none is known.
     pub line: u32,
@@ -37,7 +37,7 @@ pub struct SourceFrame<'a> {
     pub column: u32,
 }
 
-/// A constant, or 0.
+/// The constant that a value is; 0 if it is none.
 fn constant_or_zero(value: Option<Value<'_>>) -> u64
     ensures { result ≡ constant_or_zero (option_map value_view value.entry) }
 {
@@ -47,7 +47,7 @@ fn constant_or_zero(value: Option<Value<'_>>) -> u64
     }
 }
 
-/// A constant.
+/// The constant that a value is; `None` if it is none.
 fn constant_of(value: Option<Value<'_>>) -> Option<u64>
     ensures { result ≡ constant_of (option_map value_view value.entry) }
 {
@@ -57,7 +57,7 @@ fn constant_of(value: Option<Value<'_>>) -> Option<u64>
     }
 }
 
-/// A line or a column; one of 2^32 or more is not known: 0.
+/// A line or a column; 0, which means unknown, for 2^32 and more.
 fn known_number(number: u64) -> u32
     ensures { result ≡ known_number number }
 {
@@ -65,7 +65,7 @@ fn known_number(number: u64) -> u32
 }
 
 impl SourceLocation {
-    /// The location of a row, or none.
+    /// The location of a row; unknown without a row.
     pub fn of_row(row: Option<Row>) -> SourceLocation
         ensures { result ≡ location_of_row row }
     {
@@ -83,7 +83,7 @@ impl SourceLocation {
         }
     }
 
-    /// The location of the call that an entry is.
+    /// The location of the call that an entry describes.
     pub fn of_call(entry: &Entry<'_>) -> SourceLocation
         ensures { result ≡ location_of_call (entry_view entry.now) }
     {
@@ -96,7 +96,7 @@ impl SourceLocation {
 }
 
 impl<'a> UnitLines<'a> {
-    /// The path of a file, by the names of the program.
+    /// The path of a file among the names of the unit's program.
     pub fn path_in(&self, file: Option<u64>) -> Option<PathParts<'a>>
         ensures { option_map path_view result ≡ path_in (lines_view self.now) file }
     {
@@ -109,7 +109,7 @@ impl<'a> UnitLines<'a> {
 }
 
 impl<'a> UnitLines<'a> {
-    /// The frame of a row alone.
+    /// The frame of a row alone, which has no function.
     pub fn frame_of_row(&self, row: &Row) -> SourceFrame<'a>
         ensures { frame_view result ≡ frame_of_row (lines_view self.now) row.now }
     {

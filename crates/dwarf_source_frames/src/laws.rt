@@ -1,4 +1,4 @@
-//! What the definitions say of each other.
+//! Relations between the definitions.
 
 ghost use Rattle.std.specs.Prelude.{[], ◌≡◌, ◌<◌, ◌^◌, ℕ, All, List, Option};
 ghost use Rattle.dwarf_source_frames.specs.AddressFrames.{AreFramesOf};

@@ -1,11 +1,11 @@
-//! Source lines and inlined frames: what the DWARF of an image (DWARF 5) says of the frames of an address. Nothing is
-//! refused for its DWARF: what cannot be read has no frames.
+//! Source lines and inlined frames: the frames of an address according to the DWARF of an image (DWARF 5). No image is
+//! refused for its DWARF: data that cannot be read has no frames.
 //!
 //! The modules in reading order: `debug_sections`, the DWARF sections of an image; `debug_unit`, its units, and
-//! `unit_code`, where the ranges of their entries stand; `debug_info`, the entries at their places; `unit_addresses`,
-//! the units of many addresses, and `unit_lists`, [`by_unit`], these addresses under their units; `scopes`, the ranges
-//! of functions; `names`, the names of functions; `unit_lines`, the texts, names and program of a unit; `frame`, frames
-//! and where they stand; `laws`, what the definitions say of each other.
+//! `unit_code`, the ranges of their entries; `debug_info`, the entries by their offsets; `unit_addresses`, the units of
+//! many addresses, and `unit_lists`, [`by_unit`], these addresses grouped by unit; `scopes`, the ranges of functions;
+//! `names`, the names of functions; `unit_lines`, the texts, names and program of a unit; `frame`, frames and their
+//! source locations; `laws`: relations between the definitions.
 #![tactic(auto)]
 
 mod debug_info;

@@ -15,20 +15,20 @@ use crate::debug_unit::UnitEntry;
 use dwarf_encoding::Value;
 use dwarf_entries::Attribute;
 
-/// How many entries are looked at for a name.
+/// The largest number of entries to read for a name.
 const NAME_STEPS_MAX: u8 = 16;
 
-/// How many bytes of entries are read for a name at most, after those of the frame's own entry.
+/// The largest number of bytes of entries to read for a name, after the frame's own entry.
 const NAME_BYTES_MAX: usize = 16 * 1024;
 
-/// A text that is not empty.
+/// The text; `None` if it is empty.
 fn some_text(text: &[u8]) -> Option<&[u8]>
     ensures { option_map (λ t. t.now) result ≡ some_text text.now }
 {
     if text.is_empty() { None } else { Some(text) }
 }
 
-/// The text of an attribute of an entry; `None` if it is empty.
+/// The text of an attribute of an entry; `None` if it is empty or there is none.
 #[tactic(auto, unfolding(crate::specs::Names::text_in))]
 fn text_in<'a>(
     sections: &DebugSections<'a>,
@@ -43,7 +43,7 @@ fn text_in<'a>(
     some_text(text)
 }
 
-/// DW_AT_linkage_name, and else DW_AT_MIPS_linkage_name.
+/// The text of DW_AT_linkage_name, else of DW_AT_MIPS_linkage_name.
 #[tactic(auto, unfolding(crate::specs::Names::linkage_name))]
 fn linkage_name<'a>(sections: &DebugSections<'a>, of: &UnitEntry<'a>) -> Option<&'a [u8]>
     ensures { option_map (λ t. t.now) result ≡ linkage_name (sections_view sections.now) (unit_entry_view of.now) }
@@ -55,7 +55,7 @@ fn linkage_name<'a>(sections: &DebugSections<'a>, of: &UnitEntry<'a>) -> Option<
     }
 }
 
-/// The place that DW_AT_abstract_origin names, and else DW_AT_specification.
+/// The offset that DW_AT_abstract_origin names, else that of DW_AT_specification.
 #[tactic(auto, unfolding(crate::specs::Names::origin_place))]
 fn origin_place(of: &UnitEntry<'_>) -> Option<u64>
     ensures { result ≡ origin_place (unit_entry_view of.now) }
@@ -68,7 +68,7 @@ fn origin_place(of: &UnitEntry<'_>) -> Option<u64>
 }
 
 impl<'a> DebugInfo<'a> {
-    /// The entry that an entry leads to, and how many of `room` bytes are left after it.
+    /// The entry that an entry refers to, and the number of bytes left of `room` after it.
     fn origin(&self, of: &UnitEntry<'a>, room: usize) -> Option<(UnitEntry<'a>, usize)>
         ensures { IsOrigin room (sections_view self.now.sections) (unit_entry_view of.now)
             (option_map (λ x. (unit_entry_view x.0, x.1)) result) }
@@ -79,8 +79,8 @@ impl<'a> DebugInfo<'a> {
         }
     }
 
-    /// The name of an entry and of those that it leads to, at most so many, for which at most `room` bytes are read, if
-    /// a name is known before.
+    /// The name of an entry from at most `count` entries: itself and those that it refers to. `room` is the most bytes
+    /// to read for the others; `before` is a name that is known already.
     fn name_within(
         &self,
         count: u8,
@@ -105,9 +105,9 @@ impl<'a> DebugInfo<'a> {
         }
     }
 
-    /// The name of an entry's function: the first linkage name on its way by DW_AT_abstract_origin and
-    /// DW_AT_specification, and else the first DW_AT_name, of 16 entries at most; those after it and the first entries
-    /// of their units have 16,384 bytes together.
+    /// The name of an entry's function: the first linkage name of the entry and of those that it refers to by
+    /// DW_AT_abstract_origin or DW_AT_specification, else their first DW_AT_name. At most 16 entries count; those after
+    /// the first, and the first entries of their units, have at most 16,384 bytes together.
     pub fn name_of(&self, of: &UnitEntry<'a>) -> Option<&'a [u8]>
         ensures { IsName (sections_view self.now.sections) (unit_entry_view of.now) (option_map (λ t. t.now) result) }
     {

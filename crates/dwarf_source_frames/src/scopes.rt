@@ -10,22 +10,22 @@ use dwarf_entries::dw::{DW_TAG_INLINED_SUBROUTINE, DW_TAG_SUBPROGRAM};
 use dwarf_entries::{Entry, UnreadEntry};
 use dwarf_ranges::{Ranges, UnitRanges};
 
-/// Whether an entry is of a subprogram: of a function that is no call in one that it stands in.
+/// Whether an entry is DW_TAG_subprogram, a function that is not inlined into the entry in which it is nested.
 pub fn is_subprogram(entry: &Entry<'_>) -> bool
     ensures { result ≡ is_subprogram (entry_view entry.now) }
 {
     entry.tag == DW_TAG_SUBPROGRAM
 }
 
-/// Whether an entry is of a function.
+/// Whether an entry is a function: DW_TAG_subprogram or DW_TAG_inlined_subroutine.
 pub fn is_function(entry: &UnreadEntry<'_, '_>) -> bool
     ensures { result ≡ is_function (unread_view entry.now) }
 {
     entry.tag() == DW_TAG_SUBPROGRAM || entry.tag() == DW_TAG_INLINED_SUBROUTINE
 }
 
-/// The ranges of an entry of a unit that is of a function. Of its list, `left` entries count at most, and `left` is
-/// then how many more may count.
+/// The ranges of a function entry of a unit. At most `left` entries of its range list count; `left` is reduced by those
+/// that were used.
 #[tactic(auto, unfolding(crate::specs::Scopes::scope_ranges, crate::specs::Scopes::left_after_scope))]
 pub fn scope_ranges<'a>(unit: &UnitRanges<'a>, entry: &Entry<'a>, left: &mut u128) -> Ranges<'a>
     requires { is_function (entry_view entry.now) ≡ true }

@@ -22,7 +22,7 @@ use dwarf_ranges::{Arange, Aranges, Ranges, assign_ranges, first_tuples, named_u
 use memory::{Heap, NoMemory};
 use std::collections::{BTreeMap, BTreeSet};
 
-/// Puts an address under its place, or among those that are pending.
+/// Adds an address to `places` with the offset of its unit, or to `pending` if it has none.
 fn add_address(
     places: &mut BTreeMap<u64, u64, Heap>,
     pending: &mut BTreeSet<u64, Heap>,
@@ -47,7 +47,7 @@ fn add_address(
 }
 
 impl<'a> DebugInfo<'a> {
-    /// The unit at an offset; `None` if none begins there, or it cannot be read.
+    /// The unit at an offset; `None` if no unit begins there, or it cannot be read.
     #[tactic(auto, unfolding(crate::specs::UnitAddresses::read_unit))]
     pub fn unit_at(&self, offset: u64) -> Option<DebugUnit<'a>>
         ensures value { option_map unit_view result ≡ read_unit (sections_view self.now.sections) offset }
@@ -64,8 +64,8 @@ impl<'a> DebugInfo<'a> {
         Some(unit.offset)
     }
 
-    /// The addresses whose tuples name units that can be read, with the offsets of these, and the others, which are
-    /// pending.
+    /// The addresses whose tuples name units that can be read, with the offsets of these units; and the other
+    /// addresses, which are pending.
     fn places_by_tuples(
         &self,
         heap: Heap,
@@ -84,7 +84,8 @@ impl<'a> DebugInfo<'a> {
         Ok((places, pending))
     }
 
-    /// Gives the offset of a unit to each pending address in its own ranges, if no set names it.
+    /// Assigns a unit's offset to each pending address in the unit's own ranges, if no set of `__debug_aranges` names
+    /// the unit.
     #[tactic(auto, unfolding(crate::specs::UnitAddresses::own_ranges))]
     fn assign_unit(
         &self,
@@ -102,7 +103,8 @@ impl<'a> DebugInfo<'a> {
         assign_ranges(pending, places, ranges, offset)
     }
 
-    /// The ranges of a unit, if no set of `__debug_aranges` names it; `named` are the offsets of those that are named.
+    /// The ranges of a unit's first entry; none if a set of `__debug_aranges` names the unit. `named` are the offsets
+    /// of the units that sets name.
     #[tactic(auto, unfolding(crate::specs::UnitAddresses::own_ranges))]
     pub fn own_ranges(
         &self,
@@ -123,7 +125,7 @@ impl<'a> DebugInfo<'a> {
         }
     }
 
-    /// Gives to each pending address the offset of the first unit that has it in ranges of its own.
+    /// Assigns to each pending address the offset of the first unit whose own ranges contain it.
     fn assign_units(
         &self,
         named: &BTreeSet<u64, Heap>,
@@ -148,7 +150,8 @@ impl<'a> DebugInfo<'a> {
         Ok(())
     }
 
-    /// Gives to each pending address the offset of the first unit that no set names and that has it in its ranges.
+    /// Assigns to each pending address the offset of the first unit that no set of `__debug_aranges` names and whose
+    /// ranges contain it.
     fn assign_pending(
         &self,
         heap: Heap,
@@ -169,8 +172,9 @@ impl<'a> DebugInfo<'a> {
         self.assign_units(&named, places, pending)
     }
 
-    /// For each of the addresses, the offset of its unit in `__debug_info`, or `None`. It takes the time of
-    /// `__debug_aranges`, of the units if an address has no tuple, and of finding each address among the others.
+    /// For each address, the offset of its unit in `__debug_info`, or `None`. The time is that of reading
+    /// `__debug_aranges`, of reading the units if an address has no tuple, and of a search for each address among the
+    /// others.
     pub fn units_of(
         &self,
         heap: Heap,

@@ -1,4 +1,4 @@
-//! Where the ranges of the entries of a unit stand.
+//! The ranges of a unit's entries.
 
 ghost use Rattle.std.specs.Prelude.{◌≡◌, ◌<◌, ◌^◌};
 ghost use Rattle.dwarf_ranges.specs.UnitViews.{attributes_view, unit_view as ranges_view};
@@ -14,7 +14,7 @@ use crate::debug_unit::{DebugUnit, offset_or};
 use dwarf_entries::{Attribute, Entry};
 use dwarf_ranges::{AddressTable, RangeAttributes, Ranges, UnitRanges};
 
-/// What an entry has of the attributes that say its ranges.
+/// The attributes of an entry that state its ranges.
 pub fn range_attributes<'a>(entry: &Entry<'a>) -> RangeAttributes<'a>
     ensures { attributes_view result ≡ range_attributes (entry_view entry.now) }
 {
@@ -26,7 +26,7 @@ pub fn range_attributes<'a>(entry: &Entry<'a>) -> RangeAttributes<'a>
 }
 
 impl<'a> DebugUnit<'a> {
-    /// The addresses of the unit by their indexes.
+    /// The unit's addresses by index.
     fn addresses(&self, sections: &DebugSections<'a>) -> AddressTable<'a>
         ensures { addresses_view result ≡ addresses_of (sections_view sections.now) (unit_view self.now) }
     {
@@ -46,7 +46,7 @@ impl<'a> DebugUnit<'a> {
         }
     }
 
-    /// Where the ranges of the entries of the unit stand.
+    /// The sections and bases from which the ranges of the unit's entries are read.
     pub fn unit_ranges(&self, sections: &DebugSections<'a>) -> UnitRanges<'a>
         ensures { ranges_view result ≡ unit_ranges_of (sections_view sections.now) (unit_view self.now) }
     {
@@ -61,7 +61,7 @@ impl<'a> DebugUnit<'a> {
         }
     }
 
-    /// How many entries of lists of ranges count for the entries of the unit.
+    /// The largest number of entries of range lists that count for the unit's entries: four for each byte of the unit.
     pub fn entries_of_lists(&self) -> u128
         ensures is { result ≡ entries_of_lists (unit_view self.now) }
         ensures fits { result < 2 ^ 66 }

@@ -1,4 +1,4 @@
-//! What the frames of a unit need of its line number program.
+//! The parts of a unit's line number program that its frames need.
 
 ghost use Rattle.std.specs.Prelude.{◌≡◌, ◌<◌, IfOk, IfSome};
 ghost use Rattle.std.specs.Option.{option_map, option_and_then};
@@ -19,7 +19,7 @@ use dwarf_entries::Attribute;
 use dwarf_lines::{Names, Program};
 use memory::{Heap, NoMemory};
 
-/// The texts of a unit, and its program with the names of files.
+/// The texts of a unit, and its program with the names of its files.
 #[derive(Drop)]
 pub struct UnitLines<'a> {
     pub texts: TextSections<'a>,
@@ -40,7 +40,7 @@ fn program_offset(unit: &DebugUnit<'_>, value: Option<Value<'_>>) -> Option<u64>
     }
 }
 
-/// The unit of `__debug_line` of a unit.
+/// The unit of `__debug_line` that a unit names.
 #[tactic(auto, unfolding(crate::specs::UnitLines::line_unit))]
 fn line_unit<'a>(
     sections: &DebugSections<'a>,
@@ -65,7 +65,7 @@ fn comp_dir_of<'a>(sections: &DebugSections<'a>, unit: &DebugUnit<'a>) -> &'a [u
     }
 }
 
-/// The names of a unit of `__debug_line`, if there is one.
+/// The names of a unit of `__debug_line`; `None` without a unit.
 fn names_in<'a>(heap: Heap, unit: Option<&'a [u8]>) -> Result<Option<Names<'a>>, NoMemory>
     ensures { IfOk result (λ names. option_map names_view names
         ≡ option_and_then names_of (option_map (λ u. u.now) unit.entry)) }
@@ -76,7 +76,7 @@ fn names_in<'a>(heap: Heap, unit: Option<&'a [u8]>) -> Result<Option<Names<'a>>,
     }
 }
 
-/// The program of a unit of `__debug_line`, if there is one.
+/// The program of a unit of `__debug_line`; `None` without a unit.
 fn program_in(unit: Option<&[u8]>) -> Option<Program<'_>>
     ensures value { option_map (λ p. program_view p) result
         ≡ option_and_then program_of (option_map (λ u. u.now) unit.entry) }
@@ -98,8 +98,8 @@ impl<'a> DebugUnit<'a> {
 }
 
 impl<'a> UnitLines<'a> {
-    /// What the frames of a unit need, of which `lines` are the units of `__debug_line`. It takes the time and the
-    /// memory of the names of its program.
+    /// The parts that a unit's frames need; `lines` are the units of `__debug_line`. Time and memory are proportional
+    /// to the names of its program.
     pub fn read(
         heap: Heap,
         sections: &DebugSections<'a>,

@@ -1,4 +1,4 @@
-//! Addresses under the offsets of their units.
+//! Addresses grouped by the offsets of their units.
 
 ghost use Rattle.std.specs.Prelude.{◌≡◌, ◌≢◌, ◌+◌, ◌++◌, ◌∷◌, ◌↔◌, [], ℕ, IfNone, IfOk, IfSome, OnOk, None, Some};
 ghost use Rattle.std.specs.Prelude.{length};
@@ -10,16 +10,16 @@ ghost use Rattle.dwarf_source_frames.specs.ByUnit.{IsPlaced, addresses_under, pl
 use memory::{Heap, NoMemory};
 use std::collections::BTreeMap;
 
-/// Addresses of a unit.
+/// The addresses of a unit.
 #[derive(Drop)]
 pub struct AddressList {
     pub addresses: Vec<u64, Heap>,
 }
 
-/// Addresses under the offsets of their units.
+/// Addresses grouped by the offsets of their units.
 pub type ByUnit = BTreeMap<u64, AddressList, Heap>;
 
-/// Puts an address under the offset of its unit.
+/// Adds an address to the group of its unit's offset.
 fn add_under(heap: Heap, by_unit: &mut ByUnit, place: u64, address: u64) -> Result<(), NoMemory>
     ensures here { OnOk result (addresses_under by_unit.new place
         ≡ addresses_under by_unit.old place ++ address ∷ []) }
@@ -37,7 +37,7 @@ fn add_under(heap: Heap, by_unit: &mut ByUnit, place: u64, address: u64) -> Resu
     Ok(())
 }
 
-/// Puts an address under the offset of its unit, or among those that have none.
+/// Adds an address to the group of its unit's offset, or to the addresses without a unit.
 fn add_placed(
     heap: Heap,
     without: &mut Vec<u64, Heap>,
@@ -58,7 +58,7 @@ fn add_placed(
     }
 }
 
-/// Takes out the first unit with its addresses.
+/// Removes the first unit and returns its offset and addresses.
 pub fn take_unit(by_unit: &mut ByUnit) -> Option<(u64, AddressList)>
     ensures taken { IfSome result (λ x. tree_map.get nat_cmp by_unit.old x.0 ≡ Some x.1) }
     ensures gone { IfSome result (λ x. tree_map.get nat_cmp by_unit.new x.0 ≡ None) }
@@ -71,7 +71,7 @@ pub fn take_unit(by_unit: &mut ByUnit) -> Option<(u64, AddressList)>
     by_unit.pop_first()
 }
 
-/// Of addresses and the offsets of their units, the addresses that have no unit, and the others under these offsets.
+/// The addresses without a unit, and the others grouped by the offsets of their units.
 pub fn by_unit(
     heap: Heap,
     addresses: &[u64],

@@ -1,4 +1,4 @@
--- Why bytes are no universal file: the places of mach-o/fat.h that one has to get right.
+-- Why bytes are no universal file: the fields of mach-o/fat.h that must be valid.
 use Rattle.std.specs.Prelude.{ℕ, false, List, length, ◌≡◌, ◌+◌, ◌<◌, ◌⊎◌}
 use Rattle.fat_slices.specs.Kind.{kind_of, is_fat}
 use Rattle.fat_slices.specs.Layout.{nfat_arch, table_end, arch_at}
@@ -6,15 +6,15 @@ use Rattle.fat_slices.specs.declared.fat_fault.FatFault.{FatFault}
 use Rattle.fat_slices.specs.declared.fat_fault.FatFault.TheVariants.{NotUniversal, HeaderTruncated, TooManyArches}
 use Rattle.fat_slices.specs.declared.fat_fault.FatFault.TheVariants.{TableTruncated, SliceOutside, TooLarge}
 
--- what entry i names passes the file's end, in whole numbers
+-- the slice of entry i ends after the end of the file, in whole numbers
 abbrev pub IsOutside : List ℕ → ℕ → Type 0
 IsOutside file i = length file < (arch_at file i).offset + (arch_at file i).size
 
--- what entry i names has more bytes than a uint32_t counts
+-- the slice of entry i has more bytes than a uint32_t can count
 abbrev pub IsTooLarge : List ℕ → ℕ → Type 0
 IsTooLarge file i = 4294967295 < (arch_at file i).size
 
--- where a fault applies
+-- a fault applies
 abbrev pub Applies : List ℕ → FatFault → Type 0
 Applies file NotUniversal = is_fat (kind_of file) ≡ false
 Applies file HeaderTruncated = length file < 8
@@ -23,7 +23,7 @@ Applies file TableTruncated = length file < table_end file
 Applies file (SliceOutside i) = (i < nfat_arch file) × IsOutside file i
 Applies file (TooLarge i) = (i < nfat_arch file) × IsTooLarge file i
 
--- the number of a fault in the order in which faults count
+-- the number of a fault in the order of the tests
 abbrev pub number : FatFault → ℕ
 number NotUniversal = 1
 number HeaderTruncated = 2
@@ -32,7 +32,7 @@ number TableTruncated = 4
 number (SliceOutside i) = 5
 number (TooLarge i) = 6
 
--- the entry of a fault that is of an entry
+-- the index of the entry of a fault, if it is in an entry
 abbrev pub entry : FatFault → ℕ
 entry NotUniversal = 0
 entry HeaderTruncated = 0
@@ -41,11 +41,11 @@ entry TableTruncated = 0
 entry (SliceOutside i) = i
 entry (TooLarge i) = i
 
--- f counts before g: it has the lesser number, or the same number and the lesser entry
+-- f is before g: it has the lesser number, or the same number and the lesser entry
 abbrev pub IsBefore : FatFault → FatFault → Type 0
 IsBefore f g = (number f < number g) ⊎ ((number f ≡ number g) × (entry f < entry g))
 
--- why the bytes are no universal file: of the faults that apply, the first
+-- the fault of bytes that are no universal file: the first of the faults that apply
 pub record IsFatFault (file : List ℕ) (fault : FatFault) : Type 0 where
   pub applies : Applies file fault
   pub first : (other : FatFault) → IsBefore other fault → Applies file other → ⊥

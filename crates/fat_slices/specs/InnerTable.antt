@@ -1,4 +1,4 @@
--- What was found out of a header and a table: the words of inner functions. No contract of a public one has them.
+-- The facts of a header and a table: the terms of inner functions. No contract of a public function has them.
 use Rattle.std.specs.Prelude.{ℕ, true, List, length, ◌≡◌, ◌<◌, ◌≤◌}
 use Rattle.fat_slices.specs.Kind.{kind_of, is_fat}
 use Rattle.fat_slices.specs.Layout.{nfat_arch, table_end}

@@ -4,19 +4,19 @@ use Rattle.std.specs.List.{starts_with}
 use Rattle.fat_slices.specs.declared.file_kind.FileKind.{FileKind}
 use Rattle.fat_slices.specs.declared.file_kind.FileKind.TheVariants.{Thin, Universal, Universal64, Other}
 
--- FAT_MAGIC (0xcafebabe), as the bytes of a big-endian header begin
+-- FAT_MAGIC (0xcafebabe), as the first bytes of a big-endian header
 abbrev pub fat_magic : List ℕ
 fat_magic = 0xca ∷ 0xfe ∷ 0xba ∷ 0xbe ∷ []
 
--- FAT_MAGIC_64 (0xcafebabf), as the bytes of a big-endian header begin
+-- FAT_MAGIC_64 (0xcafebabf), as the first bytes of a big-endian header
 abbrev pub fat_magic_64 : List ℕ
 fat_magic_64 = 0xca ∷ 0xfe ∷ 0xba ∷ 0xbf ∷ []
 
--- MH_MAGIC_64 (0xfeedfacf), as the bytes of a little-endian image begin
+-- MH_MAGIC_64 (0xfeedfacf), as the first bytes of a little-endian image
 abbrev pub mh_magic_64 : List ℕ
 mh_magic_64 = 0xcf ∷ 0xfa ∷ 0xed ∷ 0xfe ∷ []
 
--- the kind of a file, by the magic with which it begins
+-- the kind of a file, by its magic
 unfoldable pub kind_of : List ℕ → FileKind
 kind_of file =
     if starts_with nat_eq file fat_magic then Universal

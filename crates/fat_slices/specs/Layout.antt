@@ -1,4 +1,4 @@
--- Where the numbers of a universal file lie (mach-o/fat.h). Each number is big-endian.
+-- The offsets of the numbers in a universal file (mach-o/fat.h). Each number is big-endian.
 use Rattle.std.specs.Prelude.{ℕ, ◌+◌, ◌*◌, List, drop}
 use Rattle.byteorder.specs.Endian.{big_number}
 use Rattle.fat_slices.specs.Kind.{kind_of}
@@ -26,7 +26,7 @@ fat_arch entry = record { offset = u32_be_at entry 8; size = u32_be_at entry 12 
 abbrev pub fat_arch_64 : List ℕ → FatArch
 fat_arch_64 entry = record { offset = u64_be_at entry 8; size = u64_be_at entry 16 }
 
--- the entry that begins the bytes, in a file of a kind; only FAT_MAGIC and FAT_MAGIC_64 have a table
+-- the entry at the front of the bytes, in a file of a kind; only FAT_MAGIC and FAT_MAGIC_64 have a table
 abbrev pub arch_of : FileKind → List ℕ → FatArch
 arch_of Thin entry = fat_arch entry
 arch_of Universal entry = fat_arch entry
@@ -40,11 +40,11 @@ arch_size Universal = 20
 arch_size Universal64 = 32
 arch_size Other = 20
 
--- where entry i of the table stands: the table directly follows its fat_header
+-- the offset of entry i of the table: the table directly follows its fat_header
 abbrev pub arch_offset : List ℕ → ℕ → ℕ
 arch_offset file i = 8 + arch_size (kind_of file) * i
 
--- where the table ends
+-- the offset of the end of the table
 abbrev pub table_end : List ℕ → ℕ
 table_end file = arch_offset file (nfat_arch file)
 

@@ -1,4 +1,4 @@
-//! What the entries name, tested against the file's end and against the most that a slice may have.
+//! Tests the entries' parts against the file's end and against the largest size of a slice.
 
 ghost use Rattle.std.specs.Prelude.{MatchOption};
 ghost use Rattle.fat_slices.specs.Layout.{nfat_arch};
@@ -8,7 +8,7 @@ ghost use Rattle.fat_slices.specs.FatFault.{IsOutside, IsTooLarge};
 use crate::fat_arch::arch_at;
 use crate::fat_header::nfat_arch;
 
-/// The first entry that names bytes after the file's end. An end may pass 2^64.
+/// The index of the first entry whose part ends after the file's end. An end may be above 2^64.
 pub(crate) fn first_outside(file: &[u8]) -> Option<u32>
     requires { HasTable file.now }
     ensures { MatchOption result (HasNone (IsOutside file.now) (nfat_arch file.now))
@@ -23,7 +23,7 @@ pub(crate) fn first_outside(file: &[u8]) -> Option<u32>
     None
 }
 
-/// The first entry that names more than 4,294,967,295 bytes.
+/// The index of the first entry whose part has more than 4,294,967,295 bytes.
 pub(crate) fn first_too_large(file: &[u8]) -> Option<u32>
     requires { HasTable file.now }
     ensures { MatchOption result (HasNone (IsTooLarge file.now) (nfat_arch file.now))

@@ -13,16 +13,16 @@ const FAT_ARCH_LEN: usize = 20;
 
 const FAT_ARCH_64_LEN: usize = 32;
 
-/// Which part of a file an entry names. It may pass the file's end.
+/// The part of a file in an entry. It may end after the file's end.
 #[derive(Clone, Copy)]
 pub(crate) struct FatArch {
-    /// Where the part begins, in bytes from the start of the file.
+    /// The offset of the part, in bytes from the start of the file.
     pub(crate) offset: u64,
     /// The number of its bytes.
     pub(crate) size: u64,
 }
 
-/// The offset of the entry of an index in a file of a kind.
+/// The offset of the entry at an index in a file of a kind.
 pub(crate) fn arch_offset(kind: FileKind, index: u32) -> usize
     ensures { result ≡ 8 + arch_size kind * index }
 {
@@ -33,7 +33,7 @@ pub(crate) fn arch_offset(kind: FileKind, index: u32) -> usize
     FAT_HEADER_LEN + size * index as usize
 }
 
-/// The `fat_arch` that begins the bytes.
+/// The `fat_arch` at the front of the bytes.
 fn fat_arch(entry: &[u8]) -> FatArch
     requires { 20 ≤ length entry.now }
     ensures { result ≡ fat_arch entry.now }
@@ -44,7 +44,7 @@ fn fat_arch(entry: &[u8]) -> FatArch
     }
 }
 
-/// The `fat_arch_64` that begins the bytes.
+/// The `fat_arch_64` at the front of the bytes.
 fn fat_arch_64(entry: &[u8]) -> FatArch
     requires { 32 ≤ length entry.now }
     ensures { result ≡ fat_arch_64 entry.now }
@@ -55,7 +55,7 @@ fn fat_arch_64(entry: &[u8]) -> FatArch
     }
 }
 
-/// The entry of an index.
+/// The entry at an index.
 #[tactic(auto, unfolding(crate::specs::Layout::arch_at))]
 pub(crate) fn arch_at(file: &[u8], index: u32) -> FatArch
     requires table { HasTable file.now }
@@ -70,7 +70,7 @@ pub(crate) fn arch_at(file: &[u8], index: u32) -> FatArch
     }
 }
 
-/// The part of the file that an entry names.
+/// The part of the file in an entry.
 pub(crate) fn slice_part(file: &[u8], arch: FatArch) -> &[u8]
     requires { arch.offset + arch.size ≤ length file.now }
     ensures { result.now ≡ slice_part file.now arch }

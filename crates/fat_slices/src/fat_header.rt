@@ -1,4 +1,4 @@
-//! `fat_header`, with which a universal file begins, and the room for the table after it.
+//! `fat_header`, at the start of a universal file, and the room for the table after it.
 
 ghost use Rattle.std.specs.Prelude.{◌≡◌, ◌≤◌, IfOk, IfErr, length};
 ghost use Rattle.fat_slices.specs.Layout.{nfat_arch};
@@ -12,7 +12,7 @@ use crate::number::number32;
 
 pub(crate) const FAT_HEADER_LEN: usize = 8;
 
-/// The most entries that a table may have.
+/// The largest number of entries in a table.
 pub const MOST_ARCHES: usize = 32;
 
 /// `nfat_arch`.

@@ -1,5 +1,4 @@
-//! What the definitions say of each other, for every list of bytes. Each law is the contract of a function
-//! that does nothing.
+//! Laws about the definitions, for every list of bytes. Each law is the contract of a function that does nothing.
 
 ghost use Rattle.std.specs.Prelude.{◌≡◌, ◌<◌, ◌⊎◌, ℕ, List, Some, length, slice_get};
 ghost use Rattle.fat_slices.specs.FatFault.{IsFatFault, IsUniversal};
@@ -14,8 +13,8 @@ pub fn one_fault()
     ensures none { (file : List ℕ) (f : FatFault) → IsUniversal file → IsFatFault file f → ⊥ }
 {}
 
-/// There are as many slices as the header says, each is the part that the entry of its index names, and in a
-/// universal file it is whole.
+/// The number of slices is that in the header, each is the part in the entry at its index, and in a universal file it
+/// is whole.
 pub fn slice_places()
     ensures number { (file : List ℕ) → length (slices file) ≡ nfat_arch file }
     ensures places { (file : List ℕ) (i : ℕ) → i < nfat_arch file →

@@ -1,4 +1,4 @@
-//! What a file is, by the magic with which it begins.
+//! The kind of a file, by its magic.
 
 ghost use Rattle.std.specs.Prelude.{◌≡◌};
 ghost use Rattle.fat_slices.specs.Kind.{kind_of, is_fat};
@@ -9,21 +9,21 @@ const FAT_MAGIC_64: u32 = 0xcafe_babf;
 
 const MH_MAGIC_64: u32 = 0xfeed_facf;
 
-/// What a file is, as far as its first four bytes tell.
+/// The kind of a file, by its first four bytes.
 #[derive(Clone, Copy, Debug, PartialEq, Eq)]
 pub enum FileKind {
     /// A thin 64-bit little-endian image: MH_MAGIC_64, the bytes `CF FA ED FE`.
     Thin,
-    /// A universal file with entries `fat_arch`: FAT_MAGIC, the bytes `CA FE BA BE`. A Java class file begins
-    /// with them too.
+    /// A universal file with entries `fat_arch`: FAT_MAGIC, the bytes `CA FE BA BE`. A Java class file has the same
+    /// first bytes.
     Universal,
     /// A universal file with entries `fat_arch_64`: FAT_MAGIC_64, the bytes `CA FE BA BF`.
     Universal64,
-    /// Any other file, and one of fewer than four bytes.
+    /// Any other file, or fewer than four bytes.
     Other,
 }
 
-/// The kind of a file of these bytes. Nothing after the first four is looked at.
+/// The kind of a file with these bytes. Only the first four are read.
 #[tactic(auto, unfolding(crate::specs::Kind::kind_of))]
 pub fn kind(file: &[u8]) -> FileKind
     ensures { result ≡ kind_of file.now }

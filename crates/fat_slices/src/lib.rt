@@ -1,11 +1,10 @@
-//! Universal files, as mach-o/fat.h describes them: a header, and a table that names the slices of the file, one for
-//! each architecture.
+//! Universal files, as in mach-o/fat.h: a header, and a table of the slices of the file, one for each architecture.
 //!
 //! - `number`, `file_kind`: numbers, and the kind of a file by its first four bytes; `fat_fault`: why bytes are no
 //!   universal file;
-//! - `fat_header`, `fat_arch`: the header and an entry of the table; `bounds` tests the slices that the entries name;
-//! - `universal`: [`Universal::read`] finds out whether bytes are a universal file, and else what is wrong with them; a
-//!   slice is any bytes, borrowed from the file. [`fat_laws`]: how these definitions agree.
+//! - `fat_header`, `fat_arch`: the header and an entry of the table; `bounds`: the tests of the entries' parts;
+//! - `universal`: [`Universal::read`] reads a universal file, or returns the fault; a slice is any bytes, borrowed from
+//!   the file. [`fat_laws`]: laws about these definitions.
 #![tactic(auto)]
 
 mod bounds;

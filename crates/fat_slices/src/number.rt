@@ -1,4 +1,4 @@
-//! Numbers in a universal file's header and table, which are big-endian.
+//! The numbers in a universal file's header and table, which are big-endian.
 
 ghost use Rattle.std.specs.Prelude.{◌≡◌, ◌+◌, ◌≤◌, length};
 ghost use Rattle.fat_slices.specs.Layout.{u32_be_at, u64_be_at};

@@ -28,10 +28,9 @@ impl<'a> Model for Universal<'a> {
 }
 
 impl<'a> Universal<'a> {
-    /// Reads the header and the table of a universal file, or says what is wrong with them, as `FatFault`
-    /// tells. A table may have no entry. Slices may overlap, stand at any alignment and in any order, and be of
-    /// the same architecture. Bytes between them are not looked at, nor entries after the `nfat_arch` of the
-    /// table.
+    /// Reads the header and the table of a universal file, or returns the first fault in the order of `FatFault`. A
+    /// table may be empty. Slices may overlap, have any alignment and order, and have the same architecture. Bytes
+    /// between them are not read, nor entries after the `nfat_arch` of the table.
     pub fn read(file: &'a [u8]) -> Result<Universal<'a>, FatFault>
         ensures faulty { IfErr result (λ fault. IsFatFault file.now fault) }
         ensures sound { IfOk result (λ _. IsUniversal file.now) }
@@ -63,7 +62,7 @@ impl<'a> Universal<'a> {
         self.len() == 0
     }
 
-    /// The slice that the entry of an index names, counted from 0. It is any bytes, none among them.
+    /// The slice of the entry at an index, counted from 0. It is any bytes, and may be empty.
     #[tactic(auto, using(crate::proofs::SlicePlaces::of_slices))]
     pub fn slice(&self, index: u32) -> &'a [u8]
         requires { index < length (slices self.now) }

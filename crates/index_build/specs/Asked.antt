@@ -7,8 +7,8 @@ use Rattle.table_symbols.specs.Table.{IsTableText}
 use Rattle.table_symbols.specs.declared.nearest.NearestSymbol.{NearestSymbol}
 use Rattle.index_format.specs.Entry.{claim_in}
 
--- What an entry tells of an address, over any bytes of the index: the nearest symbol of each slice whose table may be
--- stored where the entry says.
+-- The answer of an entry for an address, for any bytes of the index: the nearest symbol of each slice whose table may
+-- be stored where the entry says.
 abbrev pub IsToldBy : List ℕ → List ℕ → ℕ → Option NearestSymbol → Type 0
 IsToldBy text e address found = (slice table : List ℕ) → AreBytes slice → IsTableText slice table
     → MayBeStored text (claim_in e) table → IsSaid slice address found

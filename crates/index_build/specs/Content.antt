@@ -15,27 +15,27 @@ use Rattle.index_format.specs.Text.{index_magic}
 use Rattle.index_format.specs.Entry.{claim_at, claim_bytes, claim_in, no_claim}
 use Rattle.index_format.specs.Text.{index_text}
 
--- the claim of a record's table that is stored from this offset on; a retirement has none
+-- the claim of a record's table that is stored from this offset; a retirement has none
 unfoldable pub claim_of : ℕ → List ℕ → List ℕ → Claim
 claim_of at r table = if is_admission r then claim_at at table else no_claim
 
--- the entry of a record that stands at this offset, and whose table is stored from that one on
+-- the entry of a record at this offset, with its table stored from the other one
 unfoldable pub table_entry : ℕ → ℕ → List ℕ → List ℕ → List ℕ
 table_entry offset at r table = placed_entry offset r ++ claim_bytes (claim_of at r table)
 
--- this is the table of a record: that of its slice, and nothing of a retirement
+-- the table of a record: that of its slice, or nothing for a retirement
 pub record IsTableOf (r table : List ℕ) : Type 0 where
   pub admitted : is_admission r ≡ true → IsSliceTable (drop 33 r) table
   pub retired : is_admission r ≡ false → table ≡ []
 
--- the entries of records and tables that stand one after another, from these offsets on
+-- the entries of records and tables that follow one another, from these offsets
 abbrev pub table_entries : ℕ → ℕ → List (List ℕ) → List (List ℕ) → List (List ℕ)
 table_entries offset at [] tables = []
 table_entries offset at (r ∷ rs) [] = []
 table_entries offset at (r ∷ rs) (t ∷ ts) =
     table_entry offset at r t ∷ table_entries (offset + length r) (at + length (stored t)) rs ts
 
--- the same in byte order, where records and tables stand after the magic of their file
+-- the same in byte order, with records and tables after the magic of their file
 unfoldable pub entries_of : List (List ℕ) → List (List ℕ) → List (List ℕ)
 entries_of records tables =
     let entries : Entries = set.from_list (table_entries 8 8 records tables) in listing entries
@@ -44,7 +44,7 @@ entries_of records tables =
 abbrev pub tables_text : List (List ℕ) → List ℕ
 tables_text tables = flat_map stored tables
 
--- what an index with these tables begins with
+-- the front of an index with these tables
 abbrev pub front_of : List (List ℕ) → List ℕ
 front_of tables = index_magic ++ tables_text tables
 
@@ -52,13 +52,13 @@ front_of tables = index_magic ++ tables_text tables
 abbrev pub HasByteSlices : Operations → Type 0
 HasByteSlices o = (slice : List ℕ) → set.contains o (admission_record slice) ≡ true → AreBytes slice
 
--- The text is the index of a content: of the tables of its records, in the order of these, and of their entries.
+-- The text is the index of a content: the tables of its records, in the order of these, and their entries.
 pub record IsIndexOf (o : Operations) (text : List ℕ) : Type 0 where
   pub tables : List (List ℕ)
   pub each : AllZip IsTableOf (listing o) tables
   pub text_is : text ≡ index_text (tables_text tables) (entries_of (listing o) tables)
 
--- An entry among these is that of a record, and the table of its slice is stored in the text where the entry says.
+-- One of these entries is that of a record, and the table of its slice is stored in the text where the entry says.
 pub record HasTable (text : List ℕ) (entries : List (List ℕ)) (r : List ℕ) : Type 0 where
   pub e : List ℕ
   pub among : Contains entries e
@@ -67,6 +67,6 @@ pub record HasTable (text : List ℕ) (entries : List (List ℕ)) (r : List ℕ)
   pub is_table : IsSliceTable (drop 33 r) table
   pub stored : AreStored text (claim_in e) table
 
--- two texts end with one end record
+-- two texts end with the same end record
 abbrev pub EndAlike : List ℕ → List ℕ → Type 0
 EndAlike text other = drop (length text - 41) text ≡ drop (length other - 41) other

@@ -22,7 +22,7 @@ use Rattle.command_common.specs.declared.faults.InputName.TheVariants.{Archive}
 use Rattle.command_common.specs.declared.faults.Why.{Why}
 use Rattle.command_common.specs.declared.faults.Why.TheVariants as why_is
 
--- how many entries of an index were written, and how many bytes
+-- the numbers of an index's entries and bytes that were written
 abbrev pub index_line : Sizes → List ℕ
 index_line sizes = line (codes "index: " ++ decimal sizes.records ++ codes " entries, " ++ decimal sizes.bytes
     ++ codes " bytes")
@@ -31,35 +31,36 @@ index_line sizes = line (codes "index: " ++ decimal sizes.records ++ codes " ent
 abbrev pub index_report_of : Operations → List ℕ → List ℕ
 index_report_of o text = index_line (record { records = set.len o; bytes = length text })
 
--- why no index is made, as a command reports it
+-- why no index is made, as a fault of a command
 abbrev pub why_of : IndexingFault → Why
 why_of (OfArchive fault) = why_is.Record fault
 why_of OldArchive = why_is.OldArchive
 why_of TooLong = why_is.TooLong
 
--- memory runs out, and nothing is wrong with the archive
+-- memory ran out, and the archive has no fault
 abbrev pub WantsMemory : IndexingFault → Type 0
 WantsMemory (OfArchive fault) = fault.kind ≡ RecordOutOfMemory
 WantsMemory OldArchive = ⊥
 WantsMemory TooLong = ⊥
 
--- what is told of an archive that is refused so
+-- the command's fault for an archive that is refused with this fault
 abbrev pub TellsRefusal : IndexingFault → CommandFault → Type 0
 TellsRefusal fault told =
     IsRefusal (λ at why. (at ≡ Archive 0) × (why ≡ why_of fault) × (WantsMemory fault → ⊥)) (WantsMemory fault) told
 
--- what is told where making an index was stopped so: why the archive is refused, or how many bytes OUT took
+-- the command's fault if making an index stopped with this one: why the archive is refused, or how many bytes OUT
+-- accepted
 abbrev pub TellsStop : MakingFault → CommandFault → Type 0
 TellsStop (Refused fault) told = TellsRefusal fault told
 TellsStop (Wrote fault) told = told ≡ Output fault.written
 
--- Making the index of the archive was stopped, and this is told of it. The draft has what making one leaves then.
+-- Making the index of the archive stopped, with this fault of the command. The draft has the bytes that were written.
 pub record StopsMaking {R D : Type 0} (archive : Stream R) (draft : Stream D) (told : CommandFault) : Type 0 where
   pub stopped : MakingFault
   pub makes : Makes archive draft (Err stopped)
   pub tells : TellsStop stopped told
 
--- what stops the command: making the archive's index was stopped
+-- the command stopped: making the archive's index stopped
 abbrev pub StopsIndex : {R D : Type 0} → Reader R → Stream D → CommandFault → Type 0
 StopsIndex archive draft told =
     StopsMaking (stream archive.left archive.failures archive.old archive.new) draft told
@@ -74,7 +75,7 @@ pub record MakesIndex {R : Type 0} (archive : Reader R) (text told : List ℕ) :
   pub text_is : IsIndexOf content text
   pub told_is : told ≡ index_report_of content text
 
--- `index`, over this archive and into this draft
+-- `index`, for this archive and with this draft
 abbrev pub index : {R D : Type 0} → Reader R → Stream D → Streamed
 index archive draft = record {
   Makes = MakesIndex archive;

@@ -1,4 +1,4 @@
--- ARCHIVE's index, made in OUT's draft: the words of an inner function. No contract of a public one has them.
+-- ARCHIVE's index, made in OUT's draft: the terms of an inner function. No contract of a public function has them.
 use Rattle.std.specs.Prelude.{List, ℕ, Result, Ok, Err}
 use Rattle.std.specs.FinSet as set
 use Rattle.byte_device.specs.Devices.{Stream}
@@ -24,7 +24,7 @@ pub record IsIndexed {R D : Type 0} (archive : Reader R) (draft : Stream D) (siz
   pub is_index : IsIndexOf content text
   pub written_is : IsWrittenWhole draft.bytes draft.failures draft.old draft.new (set.len content) text sizes
 
--- what came of making the index: it was written; or what the draft took, and why that was stopped
+-- the result of making the index: it was written; or the bytes that the draft accepted, and the fault
 abbrev pub IndexesAmidst : {R D : Type 0} → Reader R → Stream D → Result Sizes CommandFault → Type 0
 IndexesAmidst archive draft (Ok sizes) = IsIndexed archive draft sizes
 IndexesAmidst archive draft (Err told) =

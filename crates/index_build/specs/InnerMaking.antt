@@ -1,4 +1,4 @@
--- An index that is made, record by record: the words of the inner functions. No contract of a public one has them.
+-- Making an index record by record: the terms of the inner functions. No contract of a public function has them.
 use Rattle.std.specs.Prelude.{◌≡◌, ◌≤◌, ◌^◌, ℕ, List, [], ◌⊎◌, All, map, Option}
 use Rattle.std.specs.List.{AllZip}
 use Rattle.std.specs.Io.KnownBytes.{Appends, Consumes}
@@ -23,7 +23,7 @@ use Rattle.index_build.specs.declared.fault.MakingFault.TheVariants.{Archive as 
 use Rattle.index_build.specs.declared.fault.TableFault.{TableFault}
 use Rattle.index_build.specs.declared.fault.TableFault.TheVariants.{OutOfMemory, Write}
 
--- why a table of this kind was not written whole: memory was refused before its first byte, or the writer failed in it
+-- why a table of this kind was not written whole: memory ran out before its first byte, or the writer failed in it
 abbrev pub StopsTable : {W : Type 0} → (W → Option (List ℕ)) → (W → ℕ) → W → W → ℕ → (List ℕ → Type 0) → TableFault
     → Type 0
 StopsTable held failures old new done IsTable OutOfMemory =
@@ -38,7 +38,7 @@ pub record AreTabled (records tables : List (List ℕ)) (entries : List IndexEnt
   pub each : AllZip IsTableOf records tables
   pub entries_are : map entry_bytes entries ≡ table_entries 8 8 records tables
 
--- The magic of an archive and these records were read of it, and the front of its index was written.
+-- The magic of an archive and these records were read, and the front of its index was written.
 pub record HasPut {W : Type 0} (a b : Option (List ℕ)) (held : W → Option (List ℕ)) (failures : W → ℕ) (old new : W)
     (entries : List IndexEntry) (position : Position) (done : ℕ) : Type 0 where
   pub records : List (List ℕ)
@@ -56,7 +56,7 @@ pub record HasPutAll {W : Type 0} (a b : Option (List ℕ)) (held : W → Option
   pub tabled : AreTabled records tables entries
   pub put : IsPut held failures old new 0 (front_of tables) done
 
--- why the table of a record was not written, which stands so many bytes after the archive's beginning
+-- why the table of a record at this offset in the archive was not written
 abbrev pub StopsRecord : {W : Type 0} → (W → Option (List ℕ)) → (W → ℕ) → W → W → ℕ → ℕ → List ℕ → MakingFault → Type 0
 StopsRecord held failures old new before done r (Refused TooLong) =
     Appends (held old) (held new) [] × (failures new ≡ failures old) × ((2 ^ 64 ≤ before) ⊎ (2 ^ 64 ≤ done))
@@ -67,7 +67,7 @@ StopsRecord held failures old new before done r (Refused (Archive_fault fault)) 
 StopsRecord held failures old new before done r (Wrote fault) = (table : List ℕ) × IsTableOf r table
     × StopsPut held failures old new done (stored table) fault.written
 
--- why reading and writing stopped, and that a beginning of the index was written
+-- why reading and writing stopped; the first bytes of the index were written
 abbrev pub HasStoppedMaking : {W : Type 0} → Option (List ℕ) → Option (List ℕ) → (W → Option (List ℕ)) → (W → ℕ) → W
     → W → MakingFault → Type 0
 HasStoppedMaking a b held failures old new (Refused (Archive_fault fault)) =
@@ -80,12 +80,12 @@ HasStoppedMaking a b held failures old new (Refused TooLong) =
 HasStoppedMaking a b held failures old new (Wrote fault) =
     FailedIn (failures old) (failures new) × IsBegun a b (held old) (held new) fault.written
 
--- what a fault says of the reader
+-- the state of the reader after a fault
 abbrev pub BlamesMaking : {R : Type 0} → (R → Option (List ℕ)) → (R → ℕ) → R → R → MakingFault → Type 0
 BlamesMaking left failures old new (Refused fault) = BlamesIndexing left failures old new fault
 BlamesMaking left failures old new (Wrote fault) = failures new ≡ failures old
 
--- what begins as an archive of version 1 is refused as that
+-- a text that begins as an archive of version 1 is refused as such
 abbrev pub TellsVersionMaking : Option (List ℕ) → MakingFault → Type 0
 TellsVersionMaking left (Refused fault) = TellsVersion left fault
 TellsVersionMaking left (Wrote fault) = Unit {0}

@@ -1,4 +1,4 @@
--- The results of making the index of an archive as it is read.
+-- The results of making the index of an archive while it is read.
 use Rattle.std.specs.Prelude.{◌≡◌, ◌+◌, ◌<◌, ◌≤◌, ◌^◌, ℕ, List, [], ◌∷◌, ◌++◌, ◌⊎◌, length}
 use Rattle.std.specs.Prelude.{take, Option, Some, IfSome, Result, Ok, Err}
 use Rattle.std.specs.List.{AllZip, concat}
@@ -24,7 +24,8 @@ use Rattle.index_build.specs.Content.{HasByteSlices, IsIndexOf, IsTableOf, front
 use Rattle.index_build.specs.declared.fault.MakingFault.{MakingFault}
 use Rattle.index_build.specs.declared.fault.MakingFault.TheVariants.{Archive as Refused, Write}
 
--- Each record begins below 2^64 in the archive, and its table in the index; the first ones begin here.
+-- The offset of each record in the archive is below 2^64, and that of its table in the index; the first ones have these
+-- offsets.
 abbrev pub AreNear : ℕ → ℕ → List (List ℕ) → List (List ℕ) → Type 0
 AreNear offset at [] tables = Unit {0}
 AreNear offset at (r ∷ rs) [] = Unit {0}
@@ -43,13 +44,14 @@ pub record IsMade {R W : Type 0} (input : Stream R) (out : Stream W) (sizes : Si
   pub near : AreNear 8 8 (listing content) is_index.tables
   pub put : IsWrittenWhole out.bytes out.failures out.old out.new (set.len content) index sizes
 
--- If the input is the text of a content, the writer has exactly the first n bytes of its index, and fewer than all.
+-- If the input is the text of a content, the writer has accepted exactly the first n bytes of its index, fewer than
+-- all.
 abbrev pub HasFirst : {R W : Type 0} → Stream R → Stream W → ℕ → Type 0
 HasFirst input out n = (o : Operations) (index : List ℕ) → IsContent o → input.bytes input.old ≡ Some (written o)
     → IsIndexOf o index → WritesFirst (out.bytes out.old) (out.bytes out.new) index n
 
--- Of an input that stood so before and so after, the magic, these records and one record more were taken; the writer
--- gained the front of their index. Before that one record stand more bytes than eight bytes count, or before its table.
+-- From an input with this state before and after, the magic, these records and one more record were read; the writer
+-- accepted the front of their index. The offset of that one record, or of its table, does not fit into eight bytes.
 pub record IsTooFar (left_old left_new held_old held_new : Option (List ℕ)) : Type 0 where
   pub records : List (List ℕ)
   pub next : List ℕ
@@ -61,8 +63,8 @@ pub record IsTooFar (left_old left_new held_old held_new : Option (List ℕ)) : 
   pub gained : Appends held_old held_new (front_of tables)
   pub far : (2 ^ 64 ≤ length (magic ++ concat records)) ⊎ (2 ^ 64 ≤ length (front_of tables))
 
--- Of an input that stood so before and so after, the magic, these records and what stands after them were taken; of
--- the front of their index the writer gained the first n bytes.
+-- From an input with this state before and after, the magic, these records and the bytes after them were read; of the
+-- front of their index the writer accepted the first n bytes.
 pub record HasBegun (left_old left_new held_old held_new : Option (List ℕ)) (n : ℕ) : Type 0 where
   pub records : List (List ℕ)
   pub tables : List (List ℕ)
@@ -74,12 +76,12 @@ pub record HasBegun (left_old left_new held_old held_new : Option (List ℕ)) (n
   pub within : n ≤ length (front_of tables)
   pub gained : Appends held_old held_new (take n (front_of tables))
 
--- the same, or nothing was gained yet
+-- the same, or nothing was written yet
 abbrev pub IsBegun : Option (List ℕ) → Option (List ℕ) → Option (List ℕ) → Option (List ℕ) → ℕ → Type 0
 IsBegun left_old left_new held_old held_new n =
     ((n ≡ 0) × Appends held_old held_new []) ⊎ HasBegun left_old left_new held_old held_new n
 
--- The whole input is the text of a content, and the writer gained the first n bytes of its index, and fewer than all.
+-- The whole input is the text of a content, and the writer accepted the first n bytes of its index, fewer than all.
 pub record HasReadWhole {R W : Type 0} (input : Stream R) (out : Stream W) (n : ℕ) : Type 0 where
   pub content : Operations
   pub whole : IsReadWhole Archive content input.bytes input.failures input.old input.new
@@ -87,16 +89,16 @@ pub record HasReadWhole {R W : Type 0} (input : Stream R) (out : Stream W) (n : 
   pub is_index : IsIndexOf content index
   pub first : WritesFirst (out.bytes out.old) (out.bytes out.new) index n
 
--- Why no index is made of an archive: it is refused as by any reader of archives, it is one of version 1, or a record
--- or a table would stand too far.
+-- Why no index is made from an archive: it is refused as by any reader of archives, it has version 1, or the offset of
+-- a record or a table would be too large.
 abbrev pub RefusesToMake : {R W : Type 0} → Stream R → Stream W → IndexingFault → Type 0
 RefusesToMake input out TooLong =
     IsTooFar (input.bytes input.old) (input.bytes input.new) (out.bytes out.old) (out.bytes out.new)
     × (input.failures input.new ≡ input.failures input.old)
 RefusesToMake input out fault = RefusesToIndex input.bytes input.failures input.old input.new fault
 
--- The archive is refused, or has no index. The writer has the first bytes of one, and did not fail: of the index of the
--- records that came, and so of each content of which the input is the text.
+-- The archive is refused, or has no index. The writer did not fail, and has accepted the first bytes of an index: of
+-- that of the records that were read, and so of that of each content whose text the input is.
 pub record IsRefused {R W : Type 0} (input : Stream R) (out : Stream W) (fault : IndexingFault) : Type 0 where
   pub refused : RefusesToMake input out fault
   pub version : TellsVersion (input.bytes input.old) fault
@@ -105,7 +107,7 @@ pub record IsRefused {R W : Type 0} (input : Stream R) (out : Stream W) (fault :
   pub begun : IsBegun (input.bytes input.old) (input.bytes input.new) (out.bytes out.old) (out.bytes out.new) count
   pub first : HasFirst input out count
 
--- The writer failed, after it had taken so many first bytes of the index. The reader did not.
+-- The writer failed after it had accepted this number of first bytes of the index. The reader did not fail.
 pub record IsStopped {R W : Type 0} (input : Stream R) (out : Stream W) (fault : WriteFault) : Type 0 where
   pub unfailed : input.failures input.new ≡ input.failures input.old
   pub failed : FailedIn (out.failures out.old) (out.failures out.new)
@@ -117,7 +119,7 @@ pub record IsStopped {R W : Type 0} (input : Stream R) (out : Stream W) (fault :
       ⊎ HasReadWhole input out fault.written
   pub first : HasFirst input out fault.written
 
--- What came of making the index of an archive.
+-- The result of making the index of an archive.
 abbrev pub Makes : {R W : Type 0} → Stream R → Stream W → Result Sizes MakingFault → Type 0
 Makes input out (Ok sizes) = IsMade input out sizes
 Makes input out (Err (Refused fault)) = IsRefused input out fault

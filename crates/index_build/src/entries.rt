@@ -28,7 +28,7 @@ pub(crate) fn sorted(entries: Vec<IndexEntry, Heap>) -> Vec<IndexEntry, Heap>
     entries
 }
 
-/// The end record of so many entries, whose bytes have this SHA-256.
+/// The end record with this number of entries, and this SHA-256 of their bytes.
 fn end_record(count: u64, digest: &[u8; 32]) -> [u8; 41]
     ensures { result ≡ 3 ∷ (to_be_bytes w64 count ++ digest.now) }
 {
@@ -38,8 +38,8 @@ fn end_record(count: u64, digest: &[u8; 32]) -> [u8; 41]
     bytes
 }
 
-/// Writes the entries in their order after the first `done` bytes of an index, and returns their SHA-256 and how many
-/// bytes there are then.
+/// Writes the entries in their order after the first `done` bytes of an index, and returns their SHA-256 and the new
+/// number of bytes.
 fn put_hashed<W: Sink>(
     entries: &[IndexEntry],
     w: &mut W,
@@ -61,8 +61,8 @@ fn put_hashed<W: Sink>(
     Ok((hasher.finalize(), done))
 }
 
-/// Writes the entries in their order and the end record after the first `done` bytes of an index, and says how many
-/// entries and bytes there are then.
+/// Writes the entries in their order and the end record after the first `done` bytes of an index, and returns the new
+/// numbers of entries and bytes.
 pub(crate) fn put_entries<W: Sink>(
     entries: &[IndexEntry],
     w: &mut W,

@@ -3,19 +3,19 @@
 use byte_device::WriteFault;
 use index_format::IndexingFault;
 
-/// Why no index is made of an archive.
+/// Why no index is made from an archive.
 #[derive(Clone, Copy, Debug, PartialEq, Eq)]
 pub enum MakingFault {
     /// The archive is refused, or it has no index.
     Archive(IndexingFault),
-    /// The writer failed, after it had taken so many first bytes of the index.
+    /// The writer failed, after it had accepted this number of first bytes of the index.
     Write(WriteFault),
 }
 
 /// Why the table of a record is not written.
 #[derive(Clone, Copy, Debug, PartialEq, Eq)]
 pub(crate) enum TableFault {
-    /// A growth of the memory was refused, and nothing was written.
+    /// Memory ran out, and nothing was written.
     OutOfMemory,
     /// The writer failed.
     Write(WriteFault),

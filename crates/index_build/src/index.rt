@@ -10,14 +10,14 @@ use byte_device::{Output, Sink, Source, Target};
 use command_common::{CommandFault, Status};
 use memory::Heap;
 
-/// Writes the index of ARCHIVE, with the tables of its slices, to OUT as ARCHIVE comes, and to the report how many
-/// entries and bytes it has.
+/// Writes the index of ARCHIVE, with the tables of its slices, to OUT while ARCHIVE is read, and to the report the
+/// numbers of its entries and bytes.
 ///
 /// # Errors
 ///
-/// `Input` where the archive is refused, as by `summary`, where it is of version 1: `OldArchive`, whatever follows its
-/// magic, and where a record or a table would stand after more than 2^64 - 1 bytes: `TooLong`; `Output` and `Report`
-/// where that writer failed; `OutOfMemory`. A fault of OUT comes before a later one of ARCHIVE.
+/// `Input` if the archive is refused, as by `summary`, if it has version 1: `OldArchive`, whatever follows its magic,
+/// and if the offset of a record or a table would be more than 2^64 - 1: `TooLong`; `Output` and `Report` if that
+/// writer failed; `OutOfMemory`. A fault of OUT is reported before a later one of ARCHIVE.
 pub fn run_index<R: Source, T: Target, P: Sink>(
     heap: Heap,
     archive: &mut R,

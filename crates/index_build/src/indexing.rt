@@ -1,4 +1,4 @@
-//! ARCHIVE's index, made in OUT's draft as ARCHIVE comes.
+//! ARCHIVE's index, made in OUT's draft while ARCHIVE is read.
 ghost use Rattle.byte_device.specs.Devices.{stream};
 ghost use Rattle.command_common.specs.Inputs.{reader};
 ghost use Rattle.index_build.specs.Index.{TellsRefusal, TellsStop};
@@ -13,7 +13,7 @@ use index_format::IndexingFault;
 use memory::Heap;
 use table_source_frames::laws::one_slice_table;
 
-/// What is told of an archive that is refused so.
+/// The command's fault for an archive that is refused with this fault.
 fn refusal_of(fault: IndexingFault) -> CommandFault
     ensures { TellsRefusal fault result }
 {
@@ -25,7 +25,7 @@ fn refusal_of(fault: IndexingFault) -> CommandFault
     }
 }
 
-/// What is told where making an index was stopped so.
+/// The command's fault if making an index stopped with this fault.
 fn stop_of(fault: MakingFault) -> CommandFault
     ensures { TellsStop fault result }
 {

@@ -1,4 +1,5 @@
-//! What an index tells of the content that it was made of. Each law is the contract of a function that does nothing.
+//! Laws about an index and the content from which it was made. Each law is the contract of a function that does
+//! nothing.
 
 ghost use Rattle.std.specs.Prelude.{◌≡◌, ◌<◌, ◌^◌, ℕ, List, Option, Some, drop, length, true};
 ghost use Rattle.std.specs.List.{concat};
@@ -27,14 +28,15 @@ pub fn one_index()
     one_slice_table();
 }
 
-/// The index of a content is read: it is the text of an index, with the entries of that content.
+/// The index of a content is accepted: it is the text of an index, with the entries of that content.
 pub fn accepted()
     ensures { (o : Operations) (text : List ℕ) → (index : IsIndexOf o text) → IsContent o
         → length (written o) < 2 ^ 64 → length text < 2 ^ 64
         → IsIndexText text (entries_of (listing o) index.tables) }
 {}
 
-/// In an archive of less than 2^64 bytes no record stands too far, and no table, if its index has less than 2^64 bytes.
+/// In an archive of less than 2^64 bytes no record has a too large offset, and no table has one, if its index has less
+/// than 2^64 bytes.
 pub fn never_too_long()
     ensures { (o : Operations) (index : List ℕ) (left held_old held_new : Option (List ℕ)) → IsContent o
         → IsIndexOf o index → length (written o) < 2 ^ 64 → length index < 2 ^ 64
@@ -43,8 +45,9 @@ pub fn never_too_long()
     one_slice_table();
 }
 
-/// The index of a content has an entry for each of its slices, and the table of the slice stands where the entry says.
-/// What such an entry tells of an address is the nearest symbol of its slice. Nothing is supposed of SHA-256.
+/// The index of a content has an entry for each of its slices, and the table of the slice is stored where the entry
+/// says. The answer of such an entry for an address is the nearest symbol of its slice. Nothing is assumed about
+/// SHA-256.
 pub fn index_answers_right()
     ensures table { (o : Operations) (text : List ℕ) → (index : IsIndexOf o text) → IsContent o
         → length text < 2 ^ 64 → (r : List ℕ) → set.contains o r ≡ true → is_admission r ≡ true
@@ -54,9 +57,9 @@ pub fn index_answers_right()
         → IsToldBy text e address found → IsSaid slice address found }
 {}
 
-/// Over any bytes that end with the end record of the index of a content, the entries that are read are those of that
-/// content, unless others have their SHA-256; and what such an entry tells of an address is the nearest symbol of its
-/// slice, unless other bytes at the place of a page of the table, or of its digests, have the digest of that page.
+/// In any bytes that end with the end record of the index of a content, the entries that are read are those of that
+/// content, unless others have their SHA-256; and the answer of such an entry for an address is the nearest symbol of
+/// its slice, unless other bytes at the offset of a page of the table, or of its digests, have the digest of that page.
 pub fn answers_are_of_the_content()
     ensures entries { (o : Operations) (index text : List ℕ) (entries : List (List ℕ)) → (is : IsIndexOf o index)
         → IsContent o → length (written o) < 2 ^ 64 → length index < 2 ^ 64 → IsIndexText text entries

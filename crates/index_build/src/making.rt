@@ -1,4 +1,4 @@
-//! The index of an archive, made as it comes.
+//! Makes the index of an archive while it is read.
 
 ghost use Rattle.std.specs.Prelude.{◌≡◌, ◌<◌, ◌^◌, IfErr, IfOk, OnOk};
 ghost use Rattle.std.specs.Io.KnownBytes.{IsAtEnd};
@@ -16,8 +16,8 @@ use index_format::{IndexEntry, IndexingFault, begin_archive, magic};
 use memory::Heap;
 use table_source_frames::laws::one_slice_table;
 
-/// Reads an archive of version 2 to its end, and writes the magic of its index and the tables of its records. It gives
-/// their entries, and how many bytes the index has then.
+/// Reads an archive of version 2 to its end, and writes the magic of its index and the tables of its records. Returns
+/// their entries, and the number of bytes of the index so far.
 fn put_front<R: Source, W: Sink>(
     heap: Heap,
     r: &mut R,
@@ -47,15 +47,15 @@ fn put_front<R: Source, W: Sink>(
     }
 }
 
-/// Makes the index of an archive of version 2 as it comes: each table is written once its record was read and tested,
-/// and the entries last. It takes the memory of a record, of its table and of what makes the lines of that
+/// Makes the index of an archive of version 2 while it is read: each table is written after its record was read and
+/// tested, and the entries last. It needs the memory of a record, of its table and of making the table's lines
 /// (`table_source_frames_build::line_table`), of 57 bytes for each retirement, and of the entries.
 ///
 /// # Errors
 ///
-/// Those of `archive_read::read_archive`, in the same order and with the same offsets; of an archive of version 1
-/// `OldArchive`, where no more than its magic was taken; `TooLong` where a record of the archive, or a table of the
-/// index, would stand after more than 2^64 - 1 bytes. `Write` where the writer failed before the archive was refused.
+/// Those of `archive_read::read_archive`, in the same order and with the same offsets; for an archive of version 1
+/// `OldArchive`, after only its magic was read; `TooLong` if the offset of a record of the archive, or of a table of
+/// the index, would be more than 2^64 - 1. `Write` if the writer failed before the archive was refused.
 pub fn index_into<R: Source, W: Sink>(
     heap: Heap,
     r: &mut R,

@@ -1,4 +1,4 @@
-//! The end of the command: OUT, which is published, and then the report.
+//! The end of the command: publishes OUT, and then writes the report.
 ghost use Rattle.std.specs.Prelude.{◌≡◌, ℕ, List, IfOk, length, string_bytes};
 ghost use Rattle.command_common.specs.Outputs.{Publishes, Takes, out_of, outs, writer};
 ghost use Rattle.index_build.specs.Index.{index_line};
@@ -8,7 +8,7 @@ use byte_device::{Output, Sink, Target};
 use command_common::{CommandFault, Status, publish_output, write_report};
 use memory::{Heap, NoMemory};
 
-/// The line of `index`: how many entries were written, and how many bytes.
+/// The line of `index`: the numbers of entries and bytes that were written.
 fn index_line(heap: Heap, sizes: Sizes) -> Result<String<Heap>, NoMemory>
     ensures { IfOk result (λ text. string_bytes text ≡ index_line sizes) }
 {

@@ -20,15 +20,15 @@ use byte_device::{Sink, Source};
 use index_format::{IndexEntry, IndexingFault};
 use memory::Heap;
 
-/// A fault of the archive.
+/// The fault of the archive, as one of making.
 fn refused(fault: RecordFault) -> MakingFault
     ensures { result ≡ Refused (Archive_fault fault) }
 {
     MakingFault::Archive(IndexingFault::Archive(fault))
 }
 
-/// Writes the table of the last record after the first `done` bytes of an index. `before` bytes of the archive stand
-/// before the record. It gives its entry, and how many bytes the index has then.
+/// Writes the table of the last record after the first `done` bytes of an index. `before` is the offset of the record
+/// in the archive. Returns its entry, and the number of bytes of the index so far.
 fn put_record<W: Sink>(
     heap: &Heap,
     reader: &RecordReader,
@@ -61,7 +61,7 @@ fn put_record<W: Sink>(
     }
 }
 
-/// Takes the records up to the end record, writes their tables after the first `done` bytes of an index, and keeps
+/// Reads the records up to the end record, writes their tables after the first `done` bytes of an index, and keeps
 /// their entries.
 pub(crate) fn put_tables<R: Source, W: Sink>(
     heap: Heap,

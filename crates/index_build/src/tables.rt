@@ -20,7 +20,7 @@ use table_checked_pages::{Claim, Stored};
 use table_source_frames_build::line_table;
 use table_symbols::TableText;
 
-/// The table of a slice, and what stands before it where it is stored.
+/// The table of a slice, and the bytes that are stored before it. Fails only if memory runs out.
 fn table_of<'a>(heap: &Heap, slice: &CheckedSlice<'a>) -> Result<(TableText<'a>, Stored), NoMemory>
     requires { IsValid slice.now }
     ensures table { IfOk result (λ made. IsSliceTable slice.now made.0) }
@@ -34,8 +34,8 @@ fn table_of<'a>(heap: &Heap, slice: &CheckedSlice<'a>) -> Result<(TableText<'a>,
     Ok((table, above))
 }
 
-/// Writes the table of a slice after the first `done` bytes of an index, as it is stored. It gives its claim, and how
-/// many bytes there are then.
+/// Writes the table of a slice after the first `done` bytes of an index, as it is stored. Returns its claim, and the
+/// new number of bytes.
 fn put_slice_table<W: Sink>(
     heap: &Heap,
     slice: &CheckedSlice<'_>,

@@ -1,4 +1,4 @@
--- The one fault of a text that is no index.
+-- The fault of a text that is no index. There is one.
 use Rattle.std.specs.Prelude.{◌≡◌, ◌≢◌, ℕ, ◌+◌, ◌-◌, ◌*◌, ◌≤◌, ◌⊎◌, ◌==◌, not, List, [], ◌++◌, length, take}
 use Rattle.std.specs.Prelude.{slice_index, if◌then◌else◌, min, nat_lt, Result, Ok, Err}
 use Rattle.std.specs.List.{concat}
@@ -12,7 +12,7 @@ use Rattle.index_format.specs.declared.index_fault.IndexFaultKind.{IndexFaultKin
 use Rattle.index_format.specs.declared.index_fault.IndexFaultKind.TheVariants.{OldIndex, BadMagic, Truncated, BadCount}
 use Rattle.index_format.specs.declared.index_fault.IndexFaultKind.TheVariants.{BadDigest, BadPlace, Device, OutOfMemory}
 
--- What the beginning of a text must be: the magic, which is not that of earlier releases, and 41 bytes more for an end
+-- The checks of the beginning of a text: it has the magic, not that of earlier releases, and 41 more bytes for an end
 -- record.
 unfoldable pub check_beginning : List ℕ → Result (Unit {0}) IndexFaultKind
 check_beginning text = if bytes_eq (take 8 text) earlier_magic then Err OldIndex
@@ -20,24 +20,24 @@ check_beginning text = if bytes_eq (take 8 text) earlier_magic then Err OldIndex
     else if nat_lt (length text) 49 then Err Truncated
     else Ok tt
 
--- What its last 41 bytes must be: an end record, of no more entries than there is room for.
+-- The checks of the last 41 bytes: they are an end record, and its number of entries fits into the text.
 unfoldable pub check_end : List ℕ → Result (Unit {0}) IndexFaultKind
 check_end text = if not (slice_index text (length text - 41) == 3) then Err Truncated
     else if nat_lt (length text) (49 + 122 * count_in text) then Err BadCount
     else Ok tt
 
--- where a fault of the beginning is
+-- the offset of a fault in the beginning
 abbrev pub beginning_offset : List ℕ → IndexFaultKind → ℕ
 beginning_offset text OldIndex = 0
 beginning_offset text BadMagic = 0
 beginning_offset text _ = length text - 41
 
--- the beginning fails its first check
+-- the beginning fails a check; the fault is that of the first
 pub record FailsInBeginning (text : List ℕ) (fault : IndexFault) : Type 0 where
   pub fails : check_beginning text ≡ Err fault.kind
   pub offset_is : fault.offset ≡ beginning_offset text fault.kind
 
--- the beginning stands, and the end record fails its first check
+-- the beginning passes its checks, and the end record fails a check; the fault is that of the first
 pub record FailsAtEnd (text : List ℕ) (fault : IndexFault) : Type 0 where
   pub beginning : check_beginning text ≡ Ok tt
   pub fails : check_end text ≡ Err fault.kind
@@ -48,14 +48,15 @@ pub record HasEnds (text : List ℕ) : Type 0 where
   pub beginning : check_beginning text ≡ Ok tt
   pub end : check_end text ≡ Ok tt
 
--- the entries have another SHA-256 than the end record says
+-- the SHA-256 of the entries is not the one in the end record
 pub record FailsDigest (text : List ℕ) (fault : IndexFault) : Type 0 where
   pub ends : HasEnds text
   pub kind_is : fault.kind ≡ BadDigest
   pub offset_is : fault.offset ≡ start_in text
   pub other : sha256 (entries_in text) ≢ digest_in text
 
--- of these bytes, which begin where the tables end, the entry after these fails its first check
+-- in these bytes, which begin where the tables end, the entry after these ones fails a check; the fault is that of the
+-- first
 pub record FailsAfter (end : ℕ) (bytes : List ℕ) (before : List (List ℕ)) (fault : IndexFault) : Type 0 where
   pub pass : PassChecks end [] before
   pub rest : List ℕ
@@ -64,12 +65,12 @@ pub record FailsAfter (end : ℕ) (bytes : List ℕ) (before : List (List ℕ)) 
   pub fails : check_entry end (last_of [] before) (take 122 rest) ≡ Err fault.kind
   pub offset_is : fault.offset ≡ end + length (concat before)
 
--- the bytes of the entries have the SHA-256 that the end record says
+-- the SHA-256 of the entries is the one in the end record
 pub record HasDigest (text : List ℕ) : Type 0 where
   pub ends : HasEnds text
   pub same : sha256 (entries_in text) ≡ digest_in text
 
--- an entry fails its first check, and those before it pass theirs
+-- an entry fails a check, and all entries before it pass theirs
 pub record FailsInEntries (text : List ℕ) (fault : IndexFault) : Type 0 where
   pub digest : HasDigest text
   pub before : List (List ℕ)
@@ -91,10 +92,10 @@ IsIndexFault text fault =
     FailsInBeginning text fault ⊎ FailsAtEnd text fault ⊎ FailsDigest text fault ⊎ FailsInEntries text fault
     ⊎ FailsInPlaces text fault
 
--- no text is at fault
+-- a fault that is not in the text
 abbrev pub IsOfMachine : IndexFaultKind → Type 0
 IsOfMachine kind = (kind ≡ Device) ⊎ (kind ≡ OutOfMemory)
 
--- where a part begins that is read: the magic, the end record, or the entries
+-- the offset of a part that is read: the magic, the end record, or the entries
 abbrev pub IsPartOffset : List ℕ → ℕ → Type 0
 IsPartOffset text offset = (offset ≡ 0) ⊎ (offset ≡ length text - 41) ⊎ (offset ≡ start_in text)

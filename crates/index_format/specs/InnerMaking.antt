@@ -1,5 +1,5 @@
--- An archive of which an index is made: the words of the inner functions. Of the public ones `begin_archive` alone has
--- them.
+-- An archive from which an index is made: the terms of the inner functions. Of the public functions only
+-- `begin_archive` has them.
 use Rattle.std.specs.Prelude.{◌≡◌, ◌≢◌, ℕ, ◌^◌, ◌≤◌, ◌<◌, List, length, Option, Result, Ok, Err}
 use Rattle.std.specs.Io.KnownBytes.{Consumes}
 use Rattle.archive_records.specs.Kind.{magic, old_magic}
@@ -16,13 +16,13 @@ HasStoppedIndexing a b (Archive_fault fault) = HasStopped Archive_text a b fault
 HasStoppedIndexing a b OldArchive = Consumes a b old_magic
 HasStoppedIndexing a b TooLong = (bytes : List ℕ) × Consumes a b bytes × (2 ^ 64 ≤ length bytes)
 
--- what a fault says of the reader
+-- the state of the reader after a fault
 abbrev pub BlamesIndexing : {R : Type 0} → (R → Option (List ℕ)) → (R → ℕ) → R → R → IndexingFault → Type 0
 BlamesIndexing left failures old new (Archive_fault fault) = Blames left failures old new fault.kind
 BlamesIndexing left failures old new OldArchive = failures new ≡ failures old
 BlamesIndexing left failures old new TooLong = failures new ≡ failures old
 
--- what the first bytes of an archive say: which of the magics they are
+-- the result of the test of an archive's first bytes: which magic they are
 abbrev pub MagicTested : List ℕ → Result (Unit {0}) IndexingFault → Type 0
 MagicTested came (Ok _) = came ≡ magic
 MagicTested came (Err (Archive_fault fault)) =

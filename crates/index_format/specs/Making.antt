@@ -1,4 +1,4 @@
--- Why no index is made of an archive.
+-- Why no index is made from an archive.
 use Rattle.std.specs.Prelude.{◌≡◌, ◌≢◌, ℕ, ◌^◌, ◌≤◌, List, length, take, Option, IfSome}
 use Rattle.std.specs.Io.KnownBytes.{Consumes}
 use Rattle.archive_core.specs.Content.{Operations, IsContent}
@@ -9,8 +9,8 @@ use Rattle.archive_records.specs.declared.kind.TextKind.TheVariants.{Archive}
 use Rattle.index_format.specs.declared.fault.IndexingFault.{IndexingFault}
 use Rattle.index_format.specs.declared.fault.IndexingFault.TheVariants.{Archive as Archive_fault, OldArchive, TooLong}
 
--- Why no index is made: the text is refused as by any reader of archives, it is one of version 1, of which no more than
--- the magic is taken, or its records stand beyond what eight bytes count.
+-- Why no index is made: the text is refused, as by any reader of archives; it has version 1, and only its magic was
+-- consumed; or the offset of a record does not fit into eight bytes.
 abbrev pub RefusesToIndex : {R : Type 0} → (R → Option (List ℕ)) → (R → ℕ) → R → R → IndexingFault → Type 0
 RefusesToIndex left failures old new (Archive_fault fault) =
     IsRefused Archive left failures old new fault
@@ -21,7 +21,8 @@ RefusesToIndex left failures old new TooLong =
     ((bytes : List ℕ) × Consumes (left old) (left new) bytes × (2 ^ 64 ≤ length bytes))
     × (failures new ≡ failures old)
 
--- What begins as an archive of version 1 is refused as that, whatever follows, but for faults of the machine.
+-- A text that begins as an archive of version 1 is refused as such, whatever follows, except for faults outside the
+-- text.
 abbrev pub TellsVersion : Option (List ℕ) → IndexingFault → Type 0
 TellsVersion left (Archive_fault fault) = IfSome left (λ text. take 8 text ≡ old_magic → IsOfMachine fault.kind)
 TellsVersion left OldArchive = Unit {0}

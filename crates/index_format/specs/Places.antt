@@ -1,4 +1,4 @@
--- The records that are read at the places that an index names.
+-- The records that are read at the offsets in an index.
 use Rattle.std.specs.Prelude.{◌≡◌, ℕ, ◌+◌, ◌^◌, ◌<◌, Bool, List, [], true, length, take, drop, filter}
 use Rattle.std.specs.Prelude.{slice_index_or, Contains, Option, Some, None}
 use Rattle.std.specs.List.{AllZip}
@@ -15,8 +15,8 @@ use Rattle.index_format.specs.Index.{lengths_of}
 use Rattle.index_format.specs.declared.fault.PlaceFault.{PlaceFault}
 use Rattle.index_format.specs.declared.fault.PlaceFault.TheVariants.{Stale, Device, OutOfMemory}
 
--- The entry is that of this record, and an admission stands at its place in the text. A retirement is in the entry
--- whole.
+-- The entry is that of this record. If it is an admission, the record is at its offset in the text. The entry of a
+-- retirement contains the whole record.
 pub record IsNamedBy (text entry record_is : List ℕ) : Type 0 where
   pub is : IsRecord record_is
   pub offset : ℕ
@@ -24,17 +24,17 @@ pub record IsNamedBy (text entry record_is : List ℕ) : Type 0 where
   pub entry_is : entry ≡ placed_entry offset record_is
   pub stands : is_admission record_is ≡ true → take (length record_is) (drop offset text) ≡ record_is
 
--- the entries under a front, a UUID or a key, in their order
+-- the entries with a prefix, a UUID or a key, in their order
 abbrev pub entries_under : List ℕ → Entries → List (List ℕ)
 entries_under front entries = filter (is_under front) (listing entries)
 
--- Each entry under the front names one of these records, in their order, and they make this content.
+-- Each entry with the prefix names one of these records, in their order, and this is their content.
 pub record AreNamed (front : List ℕ) (entries : Entries) (text : List ℕ) (p : Operations) : Type 0 where
   pub records : List (List ℕ)
   pub named : AllZip (IsNamedBy text) (entries_under front entries) records
   pub made : p ≡ content_of (set.from_list records)
 
--- the text has the length that the entries tell: the magic, their records and the end record
+-- the text has the length that the entries imply: the magic, their records and the end record
 abbrev pub HasIndexedLength : Entries → List ℕ → Type 0
 HasIndexedLength entries text = length text ≡ 17 + lengths_of entries
 
@@ -43,14 +43,14 @@ abbrev pub TellsFound : Operations → List (List ℕ) → Type 0
 TellsFound o records = (a b : List ℕ) → set.contains o (admission_record a) ≡ true
     → Contains records (admission_record b) → sha256 a ≡ sha256 b → a ≡ b
 
--- each entry under the front before this one names a record of the text
+-- each entry with the prefix before this one names a record of the text
 abbrev pub AreNamedBefore : List ℕ → List (List ℕ) → List ℕ → ℕ → Type 0
 AreNamedBefore front entries text k =
     (j : ℕ) → j < k → is_under front (slice_index_or entries j []) ≡ true
     → (r : List ℕ) × IsNamedBy text (slice_index_or entries j []) r
 
--- Why a part is not read by its places: the text has another length than the index tells, or at the place of this entry
--- under the front, from 0 on among all, stands no record that it names, and it is the first such entry.
+-- Why a part is not read at its offsets: the text has another length than the index implies, or this entry with the
+-- prefix, counted from 0 among all, names no record at its offset, and it is the first such entry.
 abbrev pub IsStale : List ℕ → Entries → List ℕ → Option ℕ → Type 0
 IsStale front entries text None = HasIndexedLength entries text → ⊥
 IsStale front entries text (Some k) =
@@ -58,7 +58,7 @@ IsStale front entries text (Some k) =
     × ((r : List ℕ) → IsNamedBy text (slice_index_or (listing entries) k []) r → ⊥)
     × AreNamedBefore front (listing entries) text k
 
--- one of these entries that pass is that of an admission, whose record begins at this offset
+-- of these entries, one that passes is that of an admission whose record begins at this offset
 pub record IsReadAmong (passes : List ℕ → Bool) (es : List (List ℕ)) (offset : ℕ) : Type 0 where
   pub number : ℕ
   pub within : number < length es
@@ -66,12 +66,12 @@ pub record IsReadAmong (passes : List ℕ → Bool) (es : List (List ℕ)) (offs
   pub admits : is_admission (slice_index_or es number []) ≡ true
   pub offset_is : offset ≡ offset_in (slice_index_or es number [])
 
--- the record of an admission whose entry is under the front begins at this offset
+-- the record of an admission whose entry has the prefix begins at this offset
 abbrev pub IsReadUnder : List ℕ → Entries → ℕ → Type 0
 IsReadUnder front entries offset = IsReadAmong (is_under front) (listing entries) offset
 
--- One of these entries that pass is that of an admission, whose record begins at this offset, and of its bytes, so many
--- from there on, a read failed.
+-- Of these entries, one that passes is that of an admission whose record begins at this offset, and a read of this
+-- number of bytes from there failed.
 pub record FailsAmong (Fails : ℕ → ℕ → Type 0) (passes : List ℕ → Bool) (es : List (List ℕ)) (offset : ℕ)
     : Type 0 where
   pub number : ℕ
@@ -81,11 +81,11 @@ pub record FailsAmong (Fails : ℕ → ℕ → Type 0) (passes : List ℕ → Bo
   pub offset_is : offset ≡ offset_in (slice_index_or es number [])
   pub fails : Fails offset (length_in (slice_index_or es number []))
 
--- the same of the entries under the front
+-- the same for the entries with the prefix
 abbrev pub FailsUnder : (ℕ → ℕ → Type 0) → List ℕ → Entries → ℕ → Type 0
 FailsUnder Fails front entries offset = FailsAmong Fails (is_under front) (listing entries) offset
 
--- what a fault says of the device: it failed where something is read at such an offset, or it did not
+-- the state of the device after a fault: it failed at an offset that is read, or it did not fail
 abbrev pub BlamesPlaced : {P : Type 0} → (ℕ → Type 0) → (P → ℕ) → P → P → PlaceFault → Type 0
 BlamesPlaced IsRead failures old new (Stale entry) = failures new ≡ failures old
 BlamesPlaced IsRead failures old new (Device offset) = FailedIn (failures old) (failures new) × IsRead offset

@@ -7,17 +7,17 @@ use Rattle.index_format.specs.declared.index_fault.IndexFault.{IndexFault}
 use Rattle.index_format.specs.declared.index_fault.IndexFaultKind.{IndexFaultKind}
 use Rattle.index_format.specs.declared.index_fault.IndexFaultKind.TheVariants.{Device}
 
--- how often the device failed, after a call that was refused
+-- the number of failures of the device after a call that was refused
 abbrev pub Blames : ℕ → ℕ → IndexFaultKind → Type 0
 Blames old new Device = FailedIn old new
 Blames old new _ = new ≡ old
 
--- A fault is the machine's, which stopped where a part begins, or it is this of the text.
+-- A fault outside the text at the beginning of a part, or this fault of the text.
 abbrev pub IsRefused : (List ℕ → IndexFault → Type 0) → List ℕ → IndexFault → Type 0
 IsRefused IsFaulty text fault = (IsOfMachine fault.kind × IsPartOffset text fault.offset) ⊎ IsFaulty text fault
 
--- A call reads of a device. What it gives is true of the text that the device is known to have, or the text has this
--- fault. The device keeps its bytes.
+-- A call reads from a device. Its value has the first property for the text that the device is known to have, or the
+-- text has this fault. The device keeps its bytes.
 pub record ReadsText {D T : Type 0} (whole : D → Option (List ℕ)) (failures : D → ℕ) (old new : D)
     (result : Result T IndexFault) (IsTrue : List ℕ → T → Type 0) (IsFaulty : List ℕ → IndexFault → Type 0)
     : Type 0 where
@@ -26,7 +26,7 @@ pub record ReadsText {D T : Type 0} (whole : D → Option (List ℕ)) (failures 
   pub counts : MatchResult result (λ _. failures new ≡ failures old)
       (λ fault. Blames (failures old) (failures new) fault.kind)
 
--- What came of reading an index: the text is one with these entries, or it has the fault of one that is none.
+-- The result of reading an index: the text is one with these entries, or it is none and has this fault.
 abbrev pub ReadsIndex : {D : Type 0} → (D → Option (List ℕ)) → (D → ℕ) → D → D → Result (List (List ℕ)) IndexFault
     → Type 0
 ReadsIndex whole failures old new result = ReadsText whole failures old new result IsIndexText IsIndexFault

@@ -1,4 +1,4 @@
--- The entries of one tag under a front: together, since entries ascend.
+-- The entries with one tag and a prefix: they are adjacent, since entries ascend.
 use Rattle.std.specs.Prelude.{◌≡◌, ◌≤◌, ◌==◌, ◌&&◌, ℕ, Bool, true, false, List, length, slice_index}
 use Rattle.std.specs.List.{AllWithin}
 use Rattle.archive_core.specs.Part.{is_under}
@@ -7,7 +7,7 @@ use Rattle.archive_core.specs.Part.{is_under}
 abbrev pub is_tagged : ℕ → List ℕ → List ℕ → Bool
 is_tagged tag front e = (slice_index e 0 == tag) && is_under front e
 
--- those of the entries that pass stand from the one number on, up to the other
+-- the entries that pass are those from the first number up to the second
 pub record IsRun (passes : List ℕ → Bool) (entries : List (List ℕ)) (start stop : ℕ) : Type 0 where
   pub ordered : start ≤ stop
   pub within : stop ≤ length entries

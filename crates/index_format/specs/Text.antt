@@ -20,11 +20,11 @@ use Rattle.index_format.specs.declared.index_fault.IndexFaultKind.TheVariants.{B
 abbrev pub index_magic : List ℕ
 index_magic = 0x4d ∷ 0x53 ∷ 0x59 ∷ 0x4d ∷ 0x49 ∷ 0x44 ∷ 0x58 ∷ 0x32 ∷ []
 
--- MSYMIDX1: what an index of a release before 2.4 begins with
+-- MSYMIDX1: the magic of indexes of releases before 2.4
 abbrev pub earlier_magic : List ℕ
 earlier_magic = 0x4d ∷ 0x53 ∷ 0x59 ∷ 0x4d ∷ 0x49 ∷ 0x44 ∷ 0x58 ∷ 0x31 ∷ []
 
--- what an entry must be after this last one, where the tables end at this offset
+-- the checks of an entry after this last one, if the tables end at this offset
 unfoldable pub check_entry : ℕ → List ℕ → List ℕ → Result (Unit {0}) IndexFaultKind
 check_entry end last e = if not (has_tag e) then Err BadTag
     else if not (has_kind e) then Err BadKind
@@ -38,8 +38,8 @@ abbrev pub PassChecks : ℕ → List ℕ → List (List ℕ) → Type 0
 PassChecks end last [] = Unit {0}
 PassChecks end last (e ∷ es) = (length e ≡ 122) × (check_entry end last e ≡ Ok tt) × PassChecks end e es
 
--- Each record stands where the one before it ends, the first at this offset of the archive; and so does each table, the
--- first at that offset of the index, and they end at the other.
+-- Each record begins where the one before it ends, the first at this offset of the archive; so does each table, the
+-- first at that offset of the index, and the last ends at the third offset.
 abbrev pub FollowOn : ℕ → ℕ → ℕ → List (List ℕ) → Type 0
 FollowOn offset at end [] = at ≡ end
 FollowOn offset at end (e ∷ es) =
@@ -73,7 +73,7 @@ pub record IsIndexText (text : List ℕ) (entries : List (List ℕ)) : Type 0 wh
 abbrev pub count_in : List ℕ → ℕ
 count_in text = from_be_bytes w64 (take 8 (drop (length text - 40) text))
 
--- where its entries begin
+-- the offset of its entries
 abbrev pub start_in : List ℕ → ℕ
 start_in text = length text - 41 - 122 * count_in text
 
@@ -85,6 +85,6 @@ entries_in text = take (122 * count_in text) (drop (start_in text) text)
 abbrev pub digest_in : List ℕ → List ℕ
 digest_in text = drop (length text - 32) text
 
--- what entries say of their records, without the claims
+-- the entries without their claims
 abbrev pub placed_of : List (List ℕ) → Entries
 placed_of entries = set.from_list (map (take 74) entries)

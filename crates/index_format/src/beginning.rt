@@ -1,4 +1,4 @@
-//! The first bytes of an archive of which an index is made.
+//! Reads the first bytes of an archive from which an index is made.
 
 ghost use Rattle.std.specs.Prelude.{◌≡◌, ◌≢◌, ◌<◌, ◌≤◌, ℕ, List, [], length, take, IfOk, IfErr, OnOk, OnErr};
 ghost use Rattle.std.specs.Io.KnownBytes.{Consumes, IsAtEnd};
@@ -14,10 +14,10 @@ use archive_records::{Format, RecordFault, RecordFaultKind, RecordReader, TextKi
 use byte_device::{Bytes, Failed, Source};
 use memory::Heap;
 
-/// How many bytes a magic has.
+/// The length of a magic in bytes.
 const MAGIC_LEN: usize = archive_records::MAGIC_LEN as usize;
 
-/// Takes the first eight bytes, fewer where the input ends, and says how many came.
+/// Reads the first eight bytes, fewer if the input ends, and returns their number.
 fn take_magic<R: Source>(r: &mut R, magic: &mut [u8]) -> Result<usize, Failed>
     requires { length magic.old ≡ 8 }
     ensures within { IfOk result (λ came. came ≤ 8) }
@@ -39,7 +39,7 @@ fn take_magic<R: Source>(r: &mut R, magic: &mut [u8]) -> Result<usize, Failed>
     Ok(came)
 }
 
-/// What is wrong with an archive's magic of which these bytes came; nothing with that of version 2.
+/// Tests the bytes of an archive's magic that were read; only that of version 2 passes.
 fn test_magic(came: &[u8]) -> Result<(), IndexingFault>
     requires { length came.now ≤ 8 }
     ensures { MagicTested came.now result }
@@ -62,12 +62,12 @@ fn test_magic(came: &[u8]) -> Result<(), IndexingFault>
     }
 }
 
-/// Reads the magic of an archive of version 2, and gives a reader of what follows. No more than eight bytes are taken.
+/// Reads the magic of an archive of version 2, and returns a reader of the records. At most eight bytes are consumed.
 ///
 /// # Errors
 ///
-/// `OldArchive` of an archive of version 1, whatever follows its magic; else those of `RecordReader::begin`, and
-/// `OutOfMemory` at offset 8 once the magic was read.
+/// `OldArchive` for an archive of version 1, whatever follows its magic; otherwise those of `RecordReader::begin`, and
+/// `OutOfMemory` at offset 8 after the magic was read.
 pub fn begin_archive<R: Source>(heap: Heap, r: &mut R) -> Result<RecordReader, IndexingFault>
     ensures read { IfOk result (λ reader. HasRead Archive (R.left r.old) (R.left r.new) [] reader) }
     ensures stopped { IfErr result (λ fault. HasStoppedIndexing (R.left r.old) (R.left r.new) fault) }

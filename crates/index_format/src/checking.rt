@@ -17,7 +17,7 @@ use archive_records::{
 use memory::Heap;
 use table_checked_pages::{Claim, digests_len};
 
-/// Whether the tag is that of an entry.
+/// Whether the tag is possible for an entry.
 fn has_tag(bytes: &[u8]) -> bool
     requires { 0 < length bytes.now }
     ensures { result ≡ has_tag bytes.now }
@@ -25,7 +25,7 @@ fn has_tag(bytes: &[u8]) -> bool
     bytes[0] == RETIREMENT || bytes[0] == ADMISSION
 }
 
-/// Whether the kind is one that the entry may have.
+/// Whether the kind is possible for the entry.
 fn has_kind(bytes: &[u8]) -> bool
     requires { 74 ≤ length bytes.now }
     ensures { result ≡ has_kind bytes.now }
@@ -33,7 +33,7 @@ fn has_kind(bytes: &[u8]) -> bool
     bytes[57] == 0 || (bytes[57] == 1 && bytes[0] == ADMISSION)
 }
 
-/// Whether the length is one that the record may have.
+/// Whether the length is possible for the record.
 fn has_length(bytes: &[u8]) -> bool
     requires { 74 ≤ length bytes.now }
     ensures { result ≡ has_length bytes.now }
@@ -47,7 +47,7 @@ fn has_length(bytes: &[u8]) -> bool
     }
 }
 
-/// How many bytes are stored where a claim says.
+/// The number of bytes that are stored for a claim.
 pub(crate) fn stored_size(claim: &Claim) -> u128
     ensures is { result ≡ stored_size (claim_view claim.now) }
     ensures fits { result < 2 ^ 70 }
@@ -56,7 +56,7 @@ pub(crate) fn stored_size(claim: &Claim) -> u128
     u128::from(digests_len(size)) + u128::from(size)
 }
 
-/// Whether the claim is zero, or that of an admission whose table ends before this offset.
+/// Whether the claim is zero, or is in an admission and its table ends before this offset.
 #[tactic(auto, unfolding(crate::specs::Entry::zeros))]
 fn has_claim(bytes: &[u8], end: u64) -> bool
     requires { length bytes.now ≡ 122 }
@@ -70,7 +70,7 @@ fn has_claim(bytes: &[u8], end: u64) -> bool
     }
 }
 
-/// Checks an entry after this last one, where the tables end at this offset.
+/// Checks an entry after this last one, if the tables end at this offset.
 #[tactic(auto, unfolding(crate::specs::Text::check_entry))]
 fn check_entry(last: &[u8], bytes: &[u8], end: u64) -> Result<(), IndexFaultKind>
     requires { length bytes.now ≡ 122 }
@@ -95,7 +95,7 @@ fn check_entry(last: &[u8], bytes: &[u8], end: u64) -> Result<(), IndexFaultKind
     Ok(())
 }
 
-/// The entries that these bytes are, where the tables end at this offset.
+/// The entries with these bytes, if the tables end at this offset.
 pub(crate) fn entries_in(
     heap: Heap,
     bytes: &[u8],

@@ -1,4 +1,4 @@
-//! What stands at the two ends of an index.
+//! The magic and the end record of an index.
 
 ghost use Rattle.std.specs.Prelude.{◌≡◌, ◌≢◌, ◌↔◌, ◌+◌, ◌-◌, ◌*◌, ◌<◌, ◌≤◌, ◌^◌, ℕ, List, Ok};
 ghost use Rattle.std.specs.Prelude.{IfOk, IfErr, OnOk, MatchResult, IsTrue, length, slice_index, take, drop, min};
@@ -15,34 +15,34 @@ use archive_records::number_at;
 use byte_device::{Failed, Placed, ReadFault, read_at};
 use memory::Heap;
 
-/// How many bytes the magic has.
+/// The length of the magic in bytes.
 pub(crate) const MAGIC_LEN: u64 = archive_records::MAGIC_LEN as u64;
 
-/// How many bytes the end record has.
+/// The length of the end record in bytes.
 const END_LEN: u64 = 41;
 
 /// The tag of the end record.
 const END: u8 = 3;
 
-/// What the end record says of the entries.
+/// The fields of the end record.
 #[derive(Clone, Copy)]
 pub(crate) struct Ends {
-    /// Where the entries begin.
+    /// The offset of the entries.
     pub start: u64,
-    /// How many there are.
+    /// The number of entries.
     pub count: u64,
     /// The SHA-256 of their bytes.
     pub digest: [u8; 32],
 }
 
-/// What an index begins with.
+/// The magic of an index: its first eight bytes.
 pub fn magic() -> [u8; 8]
     ensures { result ≡ index_magic }
 {
     *b"MSYMIDX2"
 }
 
-/// How many bytes there are.
+/// The size of the device in bytes.
 fn read_size<P: Placed>(device: &mut P) -> Result<u64, IndexFault>
     ensures { ReadsText P.whole P.failures device.old device.new result
         (λ text size. size ≡ length text) (λ text fault. ⊥) }
@@ -56,7 +56,7 @@ fn read_size<P: Placed>(device: &mut P) -> Result<u64, IndexFault>
     }
 }
 
-/// So many bytes from an offset on.
+/// Reads this number of bytes from an offset.
 pub(crate) fn read_part<P: Placed>(
     heap: Heap,
     device: &mut P,
@@ -82,7 +82,7 @@ pub(crate) fn read_part<P: Placed>(
     }
 }
 
-/// Whether these bytes begin the magic.
+/// Whether the bytes are a prefix of the magic.
 fn begins(beginning: &[u8]) -> bool
     requires { length beginning.now ≤ 8 }
     ensures { result ≡ bytes_eq beginning.now (take (length beginning.now) index_magic) }
@@ -90,14 +90,14 @@ fn begins(beginning: &[u8]) -> bool
     beginning == &magic()[..beginning.len()]
 }
 
-/// Whether these bytes are the magic of a release before 2.4.
+/// Whether the bytes are the magic of a release before 2.4.
 fn is_earlier(beginning: &[u8]) -> bool
     ensures { result ≡ bytes_eq beginning.now earlier_magic }
 {
     beginning == b"MSYMIDX1".as_slice()
 }
 
-/// Whether so many bytes have room for the magic, an end record and so many entries.
+/// Whether the size has room for the magic, an end record and this number of entries.
 fn has_room(size: u64, count: u64) -> bool
     ensures { IsTrue result ↔ (49 + 122 * count ≤ size) }
 {
@@ -105,7 +105,7 @@ fn has_room(size: u64, count: u64) -> bool
     u128::from(MAGIC_LEN + END_LEN) + entries <= u128::from(size)
 }
 
-/// Checks the beginning of a text of this size, whose first bytes these are.
+/// Checks the beginning of a text with this size and these first bytes.
 fn check_beginning(size: u64, beginning: &[u8]) -> Result<(), IndexFault>
     requires { length beginning.now ≡ min size 8 }
     ensures checked { (text : List ℕ) → size ≡ length text → beginning.now ≡ take 8 text
@@ -134,7 +134,7 @@ fn check_beginning(size: u64, beginning: &[u8]) -> Result<(), IndexFault>
     Ok(())
 }
 
-/// Reads the magic, and says how many bytes there are: room for an end record at least.
+/// Reads the magic, and returns the size of the text: it has room for an end record at least.
 fn read_beginning<P: Placed>(heap: Heap, device: &mut P) -> Result<u64, IndexFault>
     ensures room { IfOk result (λ size. 49 ≤ size) }
     ensures read { ReadsText P.whole P.failures device.old device.new result
@@ -146,7 +146,7 @@ fn read_beginning<P: Placed>(heap: Heap, device: &mut P) -> Result<u64, IndexFau
     Ok(size)
 }
 
-/// Whether an end record begins here.
+/// Whether the bytes begin with the tag of an end record.
 fn is_end(bytes: &[u8]) -> bool
     requires { 0 < length bytes.now }
     ensures { IsTrue result ↔ (slice_index bytes.now 0 ≡ 3) }
@@ -164,7 +164,7 @@ fn digest_in(end: &[u8]) -> [u8; 32]
     digest
 }
 
-/// What an end record says that these bytes are, at the end of a text of this size.
+/// The ends of a text with this size and this end record.
 fn ends_in(size: u64, end: &[u8]) -> Result<Ends, IndexFault>
     requires room { 49 ≤ size }
     requires long { length end.now ≡ 41 }
@@ -194,7 +194,7 @@ fn ends_in(size: u64, end: &[u8]) -> Result<Ends, IndexFault>
     })
 }
 
-/// Reads the end record of a text of this size.
+/// Reads the end record of a text with this size.
 fn read_end<P: Placed>(heap: Heap, device: &mut P, size: u64) -> Result<Ends, IndexFault>
     requires { 49 ≤ size }
     ensures fits { IfOk result (λ ends. ends.start + 122 * ends.count + 41 ≡ size) }

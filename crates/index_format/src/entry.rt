@@ -1,4 +1,4 @@
-//! What a record is, where it stands, and where its table is stored.
+//! The kind of a record, its offset, and the offset of its table.
 
 ghost use Rattle.std.specs.Prelude.{◌≡◌, ◌+◌, ◌≤◌, ◌∷◌, ◌++◌, true, length, slice_index, drop};
 ghost use Rattle.std.specs.Int.{w64, to_be_bytes};
@@ -16,26 +16,26 @@ use archive_records::{ENTRY_LEN as SUMMARY_LEN, Entry, RETIREMENT, digest_in, ke
 use std::cmp::Ordering;
 use table_checked_pages::Claim;
 
-/// How long an entry is.
+/// The length of an entry in bytes.
 pub(crate) const ENTRY_LEN: usize = 122;
 
-/// How many bytes of it say what the record is, as its entry of a summary does, and where it stands.
+/// The length of its first part in bytes: the entry of a summary, the kind, and the record's offset and length.
 pub(crate) const PLACED_LEN: usize = 74;
 
 /// An entry of an index.
 #[derive(Clone, Copy)]
 pub struct IndexEntry {
-    /// The key, the digest, and what the record is: the row that a list of the archive has for it.
+    /// The key, the digest, and the state: the row for the record in a list of the archive.
     pub row: FindRow,
-    /// How many bytes of the archive's text stand before the record.
+    /// The number of bytes before the record in the archive's text.
     pub offset: u64,
-    /// How many bytes the record has.
+    /// The length of the record in bytes.
     pub length: u64,
-    /// Where the table of its slice is stored in the index. It is zero of a retirement.
+    /// The claim of the slice's table in the index. It is zero for a retirement.
     pub claim: Claim,
 }
 
-/// What a retirement has in the place of a claim.
+/// The claim of a retirement: all zeros.
 #[tactic(auto, unfolding(crate::specs::Entry::zeros))]
 pub fn no_claim() -> Claim
     ensures { claim_view result ≡ no_claim }
@@ -47,7 +47,7 @@ pub fn no_claim() -> Claim
     }
 }
 
-// The entry of a summary that a row has.
+// The entry of a summary for a row.
 fn entry_of(row: &FindRow) -> [u8; SUMMARY_LEN]
     ensures { result ≡ tag_byte row.now.state ∷ (key_bytes row.now.key ++ row.now.digest.0) }
 {
@@ -67,7 +67,7 @@ fn kind_of(state: FindState) -> u8
     }
 }
 
-// Lays where a record stands, after the entry of its row.
+// Writes the kind, the record's offset and its length into 17 bytes, after the entry of its row.
 fn lay_place(part: &mut [u8], entry: &IndexEntry)
     requires { length part.old ≡ 17 }
     ensures { part.new ≡ dsym_byte entry.now.row.state
@@ -78,7 +78,7 @@ fn lay_place(part: &mut [u8], entry: &IndexEntry)
     part[9..].copy_from_slice(&entry.length.to_be_bytes());
 }
 
-/// What the tag and the kind of an entry say.
+/// The state by the tag and the kind of an entry.
 fn state_in(bytes: &[u8]) -> FindState
     requires long { 58 ≤ length bytes.now }
     requires tag { has_tag bytes.now ≡ true }
@@ -95,7 +95,7 @@ fn state_in(bytes: &[u8]) -> FindState
     }
 }
 
-/// What the first 74 bytes of an entry say, with this claim.
+/// The entry with these first 74 bytes and this claim.
 fn placed_in(bytes: &[u8], claim: Claim) -> IndexEntry
     requires long { length bytes.now ≡ 74 }
     requires tag { has_tag bytes.now ≡ true }
@@ -132,7 +132,7 @@ pub(crate) fn claim_in(bytes: &[u8]) -> Claim
     }
 }
 
-/// Lays the size and the root of a claim into 40 bytes.
+/// Writes the size and the root of a claim into 40 bytes.
 fn lay_size_and_root(part: &mut [u8], claim: &Claim)
     requires { length part.old ≡ 40 }
     ensures { part.new ≡ to_be_bytes w64 claim.now.size ++ claim.now.root }
@@ -141,7 +141,7 @@ fn lay_size_and_root(part: &mut [u8], claim: &Claim)
     part[8..].copy_from_slice(&claim.root);
 }
 
-/// Lays a claim into 48 bytes.
+/// Writes a claim into 48 bytes.
 fn lay_claim(part: &mut [u8], claim: &Claim)
     requires { length part.old ≡ 48 }
     ensures { part.new ≡ claim_bytes (claim_view claim.now) }
@@ -151,8 +151,7 @@ fn lay_claim(part: &mut [u8], claim: &Claim)
 }
 
 impl IndexEntry {
-    /// The entry of a record that stands at this offset and is so long, with this claim. Its slice is hashed where that
-    /// was not done before.
+    /// The entry of a record with this offset, length and claim. Its slice is hashed if its digest is not kept.
     pub fn of_record(record: &Record<'_>, offset: u64, size: u64, claim: Claim) -> IndexEntry
         requires { size ≡ length (borrowed_bytes record.now) }
         ensures bytes { placed_bytes result ≡ placed_entry offset (borrowed_bytes record.now) }
@@ -167,7 +166,7 @@ impl IndexEntry {
         }
     }
 
-    /// The entry that these bytes are.
+    /// The entry with these bytes.
     pub(crate) fn of_bytes(bytes: &[u8]) -> IndexEntry
         requires long { length bytes.now ≡ 122 }
         requires tag { has_tag bytes.now ≡ true }
@@ -179,7 +178,7 @@ impl IndexEntry {
         placed_in(&bytes[..PLACED_LEN], claim_in(bytes))
     }
 
-    /// The entry as it stands in an index, before its claim.
+    /// The bytes of the entry in an index, before its claim.
     pub fn placed_bytes(&self) -> [u8; 74]
         ensures { result ≡ placed_bytes self.now }
     {
@@ -189,7 +188,7 @@ impl IndexEntry {
         bytes
     }
 
-    /// The entry as it stands in an index.
+    /// The bytes of the entry in an index.
     pub fn bytes(&self) -> [u8; 122]
         ensures { result ≡ entry_bytes self.now }
     {
@@ -199,7 +198,7 @@ impl IndexEntry {
         bytes
     }
 
-    /// Compares two entries as their bytes stand in an index.
+    /// Compares two entries by their bytes in an index.
     pub fn compare(&self, other: &IndexEntry) -> Ordering
         ensures { result ≡ slice_cmp nat_cmp (entry_bytes self.now) (entry_bytes other.now) }
     {

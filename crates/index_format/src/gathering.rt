@@ -1,4 +1,4 @@
-//! The operations that the entries under a prefix name.
+//! The operations of the entries with a prefix.
 
 ghost use Rattle.std.specs.Prelude.{◌≤◌, length, map};
 ghost use Rattle.archive_core.specs.Part.{is_under};
@@ -21,7 +21,7 @@ use archive_records::{ADMISSION, RETIREMENT};
 use byte_device::Placed;
 use memory::Heap;
 
-/// Puts the operation that the entry with this number names after those that were gathered.
+/// Appends the operation of the entry with this number to those that were gathered.
 fn gather_entry<P: Placed>(
     heap: &Heap,
     gathered: &mut Vec<Operation, Heap>,
@@ -44,7 +44,7 @@ fn gather_entry<P: Placed>(
     Ok(())
 }
 
-/// Gathers the operations that the entries of a tag under a prefix name. None of the other entries is looked at.
+/// Gathers the operations of the entries with a tag and a prefix. No other entry is read.
 fn gather_run<P: Placed>(
     heap: &Heap,
     gathered: &mut Vec<Operation, Heap>,
@@ -72,8 +72,7 @@ fn gather_run<P: Placed>(
     Ok(())
 }
 
-/// Gathers the operations that the entries under a prefix name, in the order of these: the retirements, then the
-/// admissions.
+/// Gathers the operations of the entries with a prefix, in their order: the retirements, then the admissions.
 fn gather_under<P: Placed>(
     heap: &Heap,
     gathered: &mut Vec<Operation, Heap>,
@@ -96,14 +95,15 @@ fn gather_under<P: Placed>(
     gather_run(heap, gathered, ADMISSION, prefix, entries, archive, size)
 }
 
-/// Gathers the records under a UUID or a key at the places that an index names, after those that were gathered: each
-/// admission is tested as a record of an archive is, and its slice hashed and compared with its entry. The entries are
-/// found by halving, and no other is looked at. Where it fails, some of the records may have been gathered.
+/// Gathers the records with a UUID or a key at the offsets in an index, and appends them to those that were gathered:
+/// each admission is tested like a record of an archive, and its slice is hashed and compared with its entry. The
+/// entries are found by binary search, and no other is read. After a failure, some of the records may have been
+/// gathered.
 ///
 /// # Errors
 ///
-/// `Stale` at the first entry at whose place stands no record that it names; `Device` at the record that was being
-/// read; `OutOfMemory`.
+/// `Stale` for the first entry that names no record at its offset; `Device` for the record that was being read;
+/// `OutOfMemory`.
 pub fn gather_at<P: Placed>(
     heap: &Heap,
     gathered: &mut Vec<Operation, Heap>,

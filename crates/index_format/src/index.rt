@@ -29,7 +29,7 @@ impl Model for Index {
     ghost invariant = { λ index. AreOrderedEntries index.entries.items };
 }
 
-/// How many bytes the magic, the records that entries name and the end record have together.
+/// The sum of the lengths of the magic, the records in the entries and the end record, in bytes.
 fn framed_size(entries: &[IndexEntry]) -> u128
     requires { All HasItsFields entries.now }
     ensures { result ≡ 17 + sum_by length_in (map entry_bytes entries.now) }
@@ -42,7 +42,7 @@ fn framed_size(entries: &[IndexEntry]) -> u128
 }
 
 impl Index {
-    /// The index of these entries.
+    /// The index with these entries.
     pub(crate) fn of_entries(entries: Vec<IndexEntry, Heap>) -> Index
         requires { AreOrderedEntries entries.items }
         ensures { result ≡ map entry_bytes entries.items }
@@ -68,7 +68,7 @@ impl Index {
         &self.entries
     }
 
-    /// How many bytes an archive has whose records the entries name: the magic, the records and the end record.
+    /// The size in bytes of an archive with the records in the entries: the magic, the records and the end record.
     pub(crate) fn archive_size(&self) -> u128
         ensures { result ≡ 17 + lengths_of (placed_of self.now) }
     {

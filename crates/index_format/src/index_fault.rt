@@ -6,21 +6,21 @@ ghost use Rattle.index_format.specs.declared.index_fault.IndexFaultKind.TheVaria
 /// Why bytes are no index, or why they were not read to their end.
 #[derive(Clone, Copy, Debug, PartialEq, Eq)]
 pub enum IndexFaultKind {
-    /// It begins with `MSYMIDX1`, as indexes of releases before 2.4 do.
+    /// It begins with `MSYMIDX1`, the magic of indexes of releases before 2.4.
     OldIndex,
-    /// One of the first eight bytes is not that of `MSYMIDX2`.
+    /// One of the first eight bytes differs from `MSYMIDX2`.
     BadMagic,
-    /// There is no room for an end record, or none stands at the end.
+    /// There is no room for an end record, or there is none at the end.
     Truncated,
-    /// There is no room for as many entries as the end record says.
+    /// The number of entries in the end record does not fit into the text.
     BadCount,
-    /// The entries have another SHA-256 than the end record says.
+    /// The SHA-256 of the entries is not the one in the end record.
     BadDigest,
     /// The tag is neither that of a retirement nor that of an admission.
     BadTag,
-    /// The kind is neither 0 nor, of an admission, 1.
+    /// The kind is neither 0 nor, for an admission, 1.
     BadKind,
-    /// The length is not 57 of a retirement, or of an admission not 33 and that of a slice.
+    /// The length is not 57 for a retirement, or for an admission not 33 plus the length of a slice.
     BadLength,
     /// The entry is not above the one before it, in byte order.
     NotAscending,
@@ -30,21 +30,21 @@ pub enum IndexFaultKind {
     BadPlace,
     /// The device failed.
     Device,
-    /// A growth of the memory was refused.
+    /// Memory ran out.
     OutOfMemory,
 }
 
-/// What is wrong with an index, and where.
+/// The fault of an index, and its offset.
 #[derive(Clone, Copy, Debug, PartialEq, Eq)]
 pub struct IndexFault {
     pub kind: IndexFaultKind,
-    /// How many bytes stand before what is at fault: 0 for the magic, and else the end record, the entries or the one
-    /// that is at fault. For `Device` and `OutOfMemory` it is where the part begins that was being read.
+    /// The number of bytes before the faulty part: 0 for the magic, otherwise before the end record, the entries or the
+    /// faulty entry. For `Device` and `OutOfMemory` it is the offset of the part that was being read.
     pub offset: u64,
 }
 
 impl IndexFault {
-    /// Memory was wanted where this part is read.
+    /// The fault `OutOfMemory` at the offset of this part.
     pub fn out_of_memory(offset: u64) -> IndexFault
         ensures { result ≡ record { kind = OutOfMemory; offset = offset } }
     {

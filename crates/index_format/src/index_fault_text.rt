@@ -1,4 +1,4 @@
-//! A fault of an index, as it is printed.
+//! The text of an index's fault, as it is printed.
 
 use crate::{IndexFault, IndexFaultKind};
 use std::fmt::{self, Display};

@@ -1,4 +1,4 @@
-//! What an index tells of the content that it was made of, and that what is read is one. Each law is a function with an
+//! Laws about an index and the content from which it was made, and about reading it. Each law is a function with an
 //! empty body, and its contract the law.
 
 ghost use Rattle.std.specs.Prelude.{◌≡◌, ◌⊎◌, ◌≤◌, ◌<◌, ◌^◌, ℕ, List, length, map, slice_index, take};
@@ -14,32 +14,32 @@ ghost use Rattle.index_format.specs.Places.{AreNamed, HasIndexedLength, TellsFou
 ghost use Rattle.index_format.specs.Text.{IsIndexText};
 ghost use Rattle.index_format.specs.declared.index_fault.IndexFault.{IndexFault};
 
-/// With the index of the archive whose text this is, what is named under a UUID or a key is what the content has there.
-/// Nothing is supposed of SHA-256.
+/// With the index of the archive with this text, the records that are named with a UUID or a key are those of the
+/// content. Nothing is assumed about SHA-256.
 pub fn index_answers_right()
     ensures { (front : List ℕ) (o p : Operations) → length front ≤ 24 → IsContent o → length (written o) < 2 ^ 64
         → AreNamed front (index o) (written o) p → p ≡ part o (is_under front) }
 {}
 
-/// Over any bytes, what is named by the index of a content is what that content has there, unless a slice that was
-/// found has the SHA-256 of a different one of the content. So of an archive that has changed since, that of the
-/// indexed content is told, or nothing.
+/// For any bytes, the records that the index of a content names are those of the content, unless a slice that was found
+/// has the SHA-256 of a different slice of the content. So for an archive that has changed since, the answer is that of
+/// the indexed content, or there is none.
 pub fn answers_are_of_the_index()
     ensures { (front text : List ℕ) (o p : Operations) → length front ≤ 24 → IsContent o
         → (named : AreNamed front (index o) text p) → TellsFound o named.records → p ≡ part o (is_under front) }
 {}
 
-/// The archive that an index is of has the length that the index tells.
+/// The archive of an index has the length that the index implies.
 pub fn right_length()
     ensures { (o : Operations) → IsContent o → length (written o) < 2 ^ 64 → HasIndexedLength (index o) (written o) }
 {}
 
-/// The entries of a content's summary are those of its index, without their places.
+/// The entries of a content's summary are those of its index, without offsets, lengths and kinds.
 pub fn summary_of_the_index()
     ensures { (o : Operations) → IsContent o → summary o ≡ set.from_list (map (take 57) (listing (index o))) }
 {}
 
-/// Bytes are the index with one list of entries or have one fault, and never both.
+/// Bytes are an index with exactly one list of entries, or have exactly one fault, and never both.
 pub fn one_index_fault()
     ensures either { (text : List ℕ) → ((i : ℕ) → slice_index text i < 256)
         → ((entries : List (List ℕ)) × IsIndexText text entries) ⊎ ((f : IndexFault) × IsIndexFault text f) }

@@ -1,48 +1,48 @@
-//! The index of an archive with the tables of its slices: what it says of each record, how it is read from its end, and
-//! what is read at the places that it names.
+//! The index of an archive with the tables of its slices: its entries, how it is read from its end, and how records are
+//! read at the offsets in it.
 //!
 //! An index is the magic `MSYMIDX2`, the stored tables of the slices in the order of their records in the archive, an
 //! entry of 122 bytes for each record, strictly ascending in byte order, and the end record: `03`, the number of
-//! entries and the SHA-256 of their bytes. An entry is that of a summary, whether it is a companion's, the offset and
-//! the length of the record in the archive's text of version 2, and the claim of its table: where it is stored in the
-//! index, its size, and its root. How an index is made is in `index_build`.
+//! entries and the SHA-256 of their bytes. An entry is that of a summary, whether the slice is a companion, the offset
+//! and the length of the record in the archive's text of version 2, and the claim of its table: its offset in the
+//! index, its size, and its root. `index_build` makes an index.
 //!
-//! - `entry`: [`IndexEntry`], what a record is, where it stands, and where its table is stored;
-//! - `index`: [`Index`], the entries of an index that was read; `runs`: [`run_under`], those of one tag under a prefix,
-//!   which stand together;
+//! - `entry`: [`IndexEntry`], the kind of a record, its offset, and the offset of its table;
+//! - `index`: [`Index`], the entries of an index that was read; `runs`: [`run_under`], those with one tag and a prefix,
+//!   which are adjacent;
 //! - `ends`: the magic and the end record; `checking`: the checks of an entry; `places`: whether records and tables
 //!   follow one another; `reading`: [`read_index`];
 //! - `index_fault`: why bytes are no index of an archive, and `index_fault_text`, how that is printed;
-//! - `fault`: why no index is made, and why no record is read by one;
-//! - `beginning`: [`begin_archive`], of the first bytes of an archive of which an index is made;
-//! - `records`: the record at the place of an entry, tested and hashed;
-//! - `gathering`: [`gather_at`], the records under a UUID or a key;
-//! - `parts`: [`archive_of`], what they make; [`indexed_size`], the size of the archive, if it is the one that the
-//!   index tells; [`is_under`], whether an entry is under a prefix;
-//! - [`laws`]: what the entries tell of the content that they were made of; a text is the index with one list of
-//!   entries, or has one fault.
+//! - `fault`: why no index is made, and why no record is read by an index;
+//! - `beginning`: [`begin_archive`], which reads the first bytes of an archive from which an index is made;
+//! - `records`: the record at the offset of an entry, tested and hashed;
+//! - `gathering`: [`gather_at`], the records with a UUID or a key;
+//! - `parts`: [`archive_of`], an archive of these records; [`indexed_size`], the size of the archive, if the index
+//!   implies the same; [`is_under`], whether an entry has a prefix;
+//! - [`laws`]: the entries and the content from which they were made; a text is an index with one list of entries, or
+//!   has one fault.
 //!
 //! # What is proved
 //!
-//! - [`gather_at`] gives, over any bytes, the records that the entries under a UUID or a key name, each whole at its
-//!   place, in the order of their entries; otherwise it says which entry is the first that names none, or that a device
-//!   or memory failed. The length of the archive was compared before, by [`indexed_size`]. [`archive_of`] gives what
-//!   the records make.
+//! - [`gather_at`] returns, for any bytes, the records of the entries with a UUID or a key, each whole at its offset,
+//!   in the order of their entries; otherwise it reports the first entry that names no record, or that a device failed
+//!   or memory ran out. The length of the archive was compared before, by [`indexed_size`]. [`archive_of`] returns the
+//!   archive of the records.
 //!
 //! # Why it is so
 //!
-//! - The entries stand last, so an index is written as its archive comes. They are read whole and compared with their
-//!   digest; of the tables only the pages that an answer needs are read.
-//! - The magic of an archive is taken before anything else is read, so one of version 1 is told by eight bytes.
-//! - Entries are sorted, so a key is found by halving. An entry is compared as a whole.
-//! - The entries under a UUID or a key stand in two runs, of retirements and of admissions, each found by halving. So a
-//!   question costs what it finds. The length is compared once for all keys, before any byte is read.
-//! - What entries name is gathered, sorted and then taken: entries stand in the order of digests, records in that of
-//!   slices, and each would shift what is there.
-//! - What a retirement among the named ones covers is not kept, as in every content. An index whose own entries cover
-//!   one another is of no archive, and is answered so.
+//! - The entries are last, so an index is written while its archive is read. They are read whole and compared with
+//!   their digest; only those pages of the tables that an answer needs are read.
+//! - The magic of an archive is read before anything else, so version 1 is recognised by eight bytes.
+//! - Entries are sorted, so a key is found by binary search. An entry is compared as a whole.
+//! - The entries with a UUID or a key are two runs, retirements and admissions, each found by binary search. So a query
+//!   costs only the records that it finds. The length is compared once for all keys, before any byte is read.
+//! - The records of entries are gathered, sorted and then added: entries have the order of digests, records that of
+//!   slices, and unsorted each one would shift those that are there.
+//! - If a retirement among the records covers another of them, that one is not kept, as in every content. An index
+//!   whose own entries cover one another belongs to no archive, and is answered in this way.
 //! - A prefix has at most 24 bytes: after them an entry has the digest, and an admission its length.
-//! - An entry that reaches past the archive is `Stale` before memory is asked for.
+//! - An entry that reaches past the end of the archive is `Stale` before memory is allocated.
 #![tactic(auto)]
 
 mod beginning;

@@ -1,4 +1,4 @@
-//! The records under a UUID or a key.
+//! The records with a UUID or a key.
 
 ghost use Rattle.std.specs.Prelude.{◌≡◌, ◌<◌, length, map, IfOk, IfSome, OnOk};
 ghost use Rattle.std.specs.FinSet as set;
@@ -16,14 +16,14 @@ use archive_core::{Archive, Operation};
 use byte_device::Placed;
 use memory::{Heap, NoMemory};
 
-/// Whether the key of an entry begins with these bytes.
+/// Whether the key of an entry begins with this prefix.
 pub fn is_under(prefix: &[u8], entry: &IndexEntry) -> bool
     ensures { result ≡ is_under prefix.now (placed_bytes entry.now) }
 {
     begins(&entry.placed_bytes(), prefix)
 }
 
-/// Whether bytes after a tag begin with these.
+/// Whether the bytes after a tag begin with this prefix.
 fn begins(bytes: &[u8], prefix: &[u8]) -> bool
     requires { 0 < length bytes.now }
     ensures { result ≡ is_under prefix.now bytes.now }
@@ -31,11 +31,11 @@ fn begins(bytes: &[u8], prefix: &[u8]) -> bool
     bytes[1..].starts_with(prefix)
 }
 
-/// The size of an archive, where it is the length that the index tells. No byte of it is read.
+/// The size of an archive, if the index implies the same. No byte of the archive is read.
 ///
 /// # Errors
 ///
-/// `Stale` where the archive has another length; `Device` at 0.
+/// `Stale` if the archive has another length; `Device` at 0.
 pub fn indexed_size<P: Placed>(index: &Index, archive: &mut P) -> Result<u64, PlaceFault>
     ensures { ReadsPlaces P.whole P.failures archive.old archive.new result
         (λ size. HasSize (P.whole archive.old) size
@@ -53,7 +53,7 @@ pub fn indexed_size<P: Placed>(index: &Index, archive: &mut P) -> Result<u64, Pl
     }
 }
 
-/// Takes operations one after another.
+/// Adds operations to an archive one after another. Fails only if memory runs out.
 fn take_in_turn<A: Archive>(part: &mut A, operations: Vec<Operation, Heap>) -> Result<(), NoMemory>
     ensures { OnOk result
         (A.content part.new ≡ with_records (A.content part.old) (map record_bytes operations.items)) }
@@ -64,8 +64,8 @@ fn take_in_turn<A: Archive>(part: &mut A, operations: Vec<Operation, Heap>) -> R
     Ok(())
 }
 
-/// An archive of these operations, in whatever order they come. They are sorted first: so none shifts another, and each
-/// slice comes after the retirements of its key. Refused for want of memory alone.
+/// An archive of these operations, which may have any order. They are sorted first: so none shifts another, and each
+/// slice follows the retirements of its key. Fails only if memory runs out.
 pub fn archive_of<A: Archive + Drop>(
     heap: Heap,
     operations: Vec<Operation, Heap>,

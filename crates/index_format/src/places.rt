@@ -1,4 +1,4 @@
-//! Whether the records of entries follow one another, and their tables.
+//! Whether the records of entries follow one another, and their tables do.
 
 ghost use Rattle.std.specs.Prelude.{◌≡◌, ◌↔◌, ◌<◌, ◌^◌, All, IfOk, IsTrue, [], length, map, true};
 ghost use Rattle.archive_core.specs.Content.{is_admission};
@@ -23,7 +23,7 @@ fn is_admission(entry: &IndexEntry) -> bool
     }
 }
 
-/// Whether a record stands at this offset of the archive, and its table, if it has one, at that of the index.
+/// Whether a record is at this offset of the archive, and its table, if it has one, at that offset of the index.
 fn follows(entry: &IndexEntry, offset: u128, at: u128) -> bool
     requires { HasItsFields entry.now }
     ensures { let e = entry_bytes entry.now in
@@ -33,7 +33,7 @@ fn follows(entry: &IndexEntry, offset: u128, at: u128) -> bool
         && (!is_admission(entry) || u128::from(entry.claim.offset) == at)
 }
 
-/// Whether the records follow one another in this order from the magic of their archive on, and the tables from that of
+/// Whether in this order the records follow one another from the magic of their archive, and the tables from that of
 /// the index up to this offset.
 fn follow_on(order: &[&IndexEntry], end: u64) -> bool
     requires fields { All HasItsFields (map (λ entry. entry.now) order.now) }
@@ -52,21 +52,22 @@ fn follow_on(order: &[&IndexEntry], end: u64) -> bool
     at == u128::from(end)
 }
 
-/// So many entries have no room in memory.
+/// The number of entries in memory is less than 2^58.
 fn fit_memory(entries: &[IndexEntry])
     ensures { length entries.now < 2 ^ 58 }
 {
     let _count = entries.len();
 }
 
-/// The places of the entries in memory, which are sorted in their stead.
+/// References to the entries, which are sorted in place of the entries. Fails only if memory runs out.
 fn borrowed(heap: Heap, entries: &[IndexEntry]) -> Result<Vec<&IndexEntry, Heap>, NoMemory>
     ensures { IfOk result (λ borrowed. map (λ entry. entry.now) borrowed.items ≡ entries.now) }
 {
     entries.iter().collect(heap)
 }
 
-/// Whether in some order they do. Entries are sorted by their offsets where they are borrowed: none is copied.
+/// Whether they follow one another in some order. References are sorted by offset: no entry is copied. Fails only if
+/// memory runs out.
 pub(crate) fn are_laid(heap: Heap, entries: &[IndexEntry], end: u64) -> Result<bool, NoMemory>
     requires fields { All HasItsFields entries.now }
     requires checked { PassChecks end [] (map entry_bytes entries.now) }

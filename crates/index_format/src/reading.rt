@@ -1,4 +1,4 @@
-//! An index that is read.
+//! Reads an index.
 
 ghost use Rattle.std.specs.Prelude.{◌≡◌, ◌≢◌, ◌⊎◌, ◌+◌, ◌*◌, ◌<◌, ◌^◌, ◌↔◌, ℕ, List, IfOk, IfErr, IsTrue, length};
 ghost use Rattle.sha2.specs.Sha256.{sha256};
@@ -47,7 +47,7 @@ fn read_bytes<P: Placed>(
     Ok(bytes)
 }
 
-/// The entries of a text with these ends, whose bytes these are.
+/// The entries of a text with these ends, from their bytes.
 fn check_entries(heap: Heap, bytes: &[u8], ends: &Ends) -> Result<Vec<IndexEntry, Heap>, IndexFault>
     requires whole { length bytes.now ≡ 122 * ends.now.count }
     requires fits { ends.now.start + 122 * ends.now.count + 41 < 2 ^ 64 }
@@ -86,16 +86,15 @@ fn read_entries<P: Placed>(
     check_entries(heap, &bytes, ends)
 }
 
-/// Reads an index from its end: the magic, the end record and the entries, which are compared with their digest, and
-/// whose places are compared with the lengths before them. No table is read.
+/// Reads an index from its end: the magic, the end record and the entries. The entries are compared with their digest,
+/// and their offsets with the lengths before them. No table is read.
 ///
 /// # Errors
 ///
 /// The first of these: the magic is another; there is no room for an end record, or none at the end, or no room for its
-/// entries; the entries have another digest; of an entry, in this order, the tag, the kind or the length is none that
-/// it may have, it is not above the one before it, or its claim is none that it may have; or records or tables do not
-/// follow one another. Where the device fails or memory is refused, the offset is where the part begins that was being
-/// read.
+/// entries; the entries have another digest; for an entry, in this order, the tag, the kind or the length is not
+/// possible, it is not above the one before it, or its claim is not possible; or records or tables do not follow one
+/// another. If the device fails or memory runs out, the offset is that of the part that was being read.
 pub fn read_index<P: Placed>(heap: Heap, device: &mut P) -> Result<Index, IndexFault>
     ensures { ReadsIndex P.whole P.failures device.old device.new result }
 {

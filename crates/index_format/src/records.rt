@@ -1,4 +1,4 @@
-//! The record at the place of an entry.
+//! The record at the offset of an entry.
 
 ghost use Rattle.std.specs.Prelude.{◌≡◌, ◌≢◌, ◌+◌, ◌≤◌, ◌↔◌, Err, true, false, length, take, drop};
 ghost use Rattle.std.specs.Prelude.{slice_index, IfNone, IfOk, IfSome, IsTrue, MatchOption, OnOk};
@@ -55,7 +55,7 @@ fn admission_in(bytes: &[u8]) -> Option<Record<'_>>
     }
 }
 
-/// Whether a record, which is these bytes, is the one that the entry is of. Its slice is hashed.
+/// Whether the record with these bytes is that of the entry. Its slice is hashed.
 fn is_of(entry: &IndexEntry, bytes: &[u8], record: &Record<'_>) -> bool
     requires { borrowed_bytes record.now ≡ bytes.now }
     ensures { IsTrue result ↔ (placed_bytes entry.now ≡ placed_entry entry.now.offset bytes.now) }
@@ -64,8 +64,8 @@ fn is_of(entry: &IndexEntry, bytes: &[u8], record: &Record<'_>) -> bool
     made.placed_bytes() == entry.placed_bytes()
 }
 
-/// The operation of the admission that these bytes are, if they are the record that the entry is of. The slice is
-/// hashed, and copied.
+/// The operation of the admission with these bytes, if they are the record of the entry. The slice is hashed, and
+/// copied.
 fn admission_of(
     heap: &Heap,
     entry: &IndexEntry,
@@ -87,7 +87,7 @@ fn admission_of(
     }
 }
 
-/// The bytes at the place of an entry, in an archive of this size; none where there are fewer.
+/// The bytes at the offset of an entry, in an archive of this size; none if there are fewer.
 fn bytes_at<P: Placed>(
     heap: Heap,
     archive: &mut P,
@@ -112,21 +112,21 @@ fn bytes_at<P: Placed>(
     read_at(heap, archive, entry.offset, entry.length)
 }
 
-/// Where the record of an entry stands.
+/// The offset of an entry's record.
 fn offset_of(entry: &IndexEntry) -> u64
     ensures { result ≡ entry.now.offset }
 {
     entry.offset
 }
 
-/// How long the record of an entry is.
+/// The length of an entry's record.
 fn length_of(entry: &IndexEntry) -> u64
     ensures { result ≡ entry.now.length }
 {
     entry.length
 }
 
-/// Whether an entry is a retirement's.
+/// Whether an entry is that of a retirement.
 fn is_retirement(state: FindState) -> bool
     ensures yes { result ≡ true → state ≡ Retired }
     ensures no { result ≡ false → state ≢ Retired }
@@ -137,8 +137,8 @@ fn is_retirement(state: FindState) -> bool
     }
 }
 
-/// The operation that the entry with this number names: a retirement is the entry's own, and an admission stands at its
-/// place. Else the entry is stale.
+/// The operation of the entry with this number: a retirement is in the entry itself, and an admission is at its offset.
+/// Otherwise the entry is stale.
 pub(crate) fn operation_at<P: Placed>(
     heap: &Heap,
     archive: &mut P,

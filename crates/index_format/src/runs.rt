@@ -1,4 +1,4 @@
-//! The entries of one tag under a prefix, which stand together.
+//! The entries with one tag and a prefix, which are adjacent.
 
 ghost use Rattle.std.specs.Prelude.{◌≡◌, ◌+◌, ◌≤◌, ◌∷◌, length, map, take};
 ghost use Rattle.std.specs.Ordering.{nat_cmp};
@@ -10,7 +10,7 @@ ghost use Rattle.index_format.specs.Runs.{IsRun, is_tagged};
 use crate::IndexEntry;
 use std::cmp::Ordering;
 
-/// Compares the tag of an entry, and what its key begins with, with a tag and a prefix.
+/// Compares the tag of an entry and the front of its key with a tag and a prefix.
 fn compare(entry: &IndexEntry, tag: u8, prefix: &[u8]) -> Ordering
     requires { length prefix.now ≤ 24 }
     ensures { result ≡ slice_cmp nat_cmp (take (length prefix.now + 1) (placed_bytes entry.now)) (tag ∷ prefix.now) }
@@ -21,8 +21,8 @@ fn compare(entry: &IndexEntry, tag: u8, prefix: &[u8]) -> Ordering
         .then(bytes[1..prefix.len() + 1].cmp(prefix))
 }
 
-/// From which number on, and up to which, the entries of a tag under a prefix stand, a key or less: the retirements
-/// under it, tag 1, or the admissions, tag 2. They are found by halving.
+/// The range of numbers of the entries with a tag and a prefix, at most a key: the retirements with it, tag 1, or the
+/// admissions, tag 2. The range is found by binary search.
 pub fn run_under(entries: &[IndexEntry], tag: u8, prefix: &[u8]) -> (usize, usize)
     requires indexed { AreIndexed (map placed_bytes entries.now) }
     requires short { length prefix.now ≤ 24 }

@@ -8,29 +8,29 @@ use Rattle.index_format.specs.Entry.{claim_in}
 use Rattle.index_lookup.specs.Among.{AreAnsweringAmong, EntryAt}
 use Rattle.index_lookup.specs.Told.{AreFramesToldBy, IsToldBy}
 
--- what an entry tells of a place, over these bytes of the indexes: its digest, and what its table tells
+-- the row of an entry for an address, with these bytes of the indexes: its digest, and the answer of its table
 pub record IsToldRowAt (texts : List (List ℕ)) (asked : Where) (x : EntryAt) (row : OwnRow) : Type 0 where
   pub digest_is : row.digest ≡ take 32 (drop 25 x.entry)
   pub own_is : (text : List ℕ) → slice_get texts x.input ≡ Some text → IsToldBy text (claim_in x.entry) asked row.own
 
--- what entries that answer tell together
+-- the answer of the entries that answer together
 abbrev pub IsToldOfAmong : List (List ℕ) → Where → List EntryAt → AnswerRecord → Type 0
 IsToldOfAmong texts asked xs Unanswered = xs ≡ []
 IsToldOfAmong texts asked xs (Alone own) = (x : EntryAt) × (row : OwnRow) × (xs ≡ x ∷ []) × (row.own ≡ own)
     × IsToldRowAt texts asked x row
 IsToldOfAmong texts asked xs (Disputed rows) = (2 ≤ length xs) × AllZip (IsToldRowAt texts asked) xs rows
 
--- the frames that the table of an entry has of a place, over these bytes of the indexes
+-- the frames in the table of an entry for an address, with these bytes of the indexes
 abbrev pub AreFramesToldAt : List (List ℕ) → Where → EntryAt → List FrameRecord → Type 0
 AreFramesToldAt texts asked x frames =
     (text : List ℕ) → slice_get texts x.input ≡ Some text → AreFramesToldBy text (claim_in x.entry) asked frames
 
--- the frames that are shown of entries: those of each, or none where no lines are wanted
+-- the frames that are shown for entries: those of each, or none if no lines are asked for
 abbrev pub AreShownAmong : List (List ℕ) → Bool → Where → List EntryAt → List (List FrameRecord) → Type 0
 AreShownAmong texts true asked xs frames = AllZip (AreFramesToldAt texts asked) xs frames
 AreShownAmong texts false asked xs frames = frames ≡ []
 
--- the answer of several indexes with these bytes and entries under these bytes of a key, with the frames that are shown
+-- the answer of several indexes with these bytes and entries for this prefix of a key, with the frames that are shown
 pub record IsAnswerAmong (texts : List (List ℕ)) (indexes : List (List (List ℕ))) (prefix : List ℕ) (lines : Bool)
     (asked : Where) (answer : AnswerRecord) (frames : List (List FrameRecord)) : Type 0 where
   pub answering : List EntryAt

@@ -1,4 +1,4 @@
--- The slices whose entries these are.
+-- The slices of entries.
 use Rattle.std.specs.Prelude.{◌≡◌, ℕ, List, take, drop}
 use Rattle.sha2.specs.Sha256.{sha256}
 use Rattle.table_checked_pages.specs.Pages.{AreStored}

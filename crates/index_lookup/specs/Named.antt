@@ -10,19 +10,19 @@ use Rattle.index_lookup.specs.Among.{AreAnsweringAmong, EntryAt, IsAmong, all_of
 use Rattle.index_lookup.specs.Told.{is_companion}
 use Rattle.index_lookup.specs.declared.named.NamedSlice.{NamedSlice}
 
--- the SHA-256 that an entry says
+-- the SHA-256 in an entry
 abbrev pub digest_at : EntryAt → List ℕ
 digest_at x = take 32 (drop 25 x.entry)
 
--- what an entry of a slice says that this is
+-- the state of an entry's slice
 abbrev pub state_at : EntryAt → FindState
 state_at x = if is_companion x.entry then Dsym else Image
 
--- how many bytes the slice of an entry has: those of the record without its head
+-- the number of bytes of an entry's slice: those of the record without its head
 abbrev pub size_at : EntryAt → ℕ
 size_at x = length_in x.entry - 33
 
--- the row is what an entry says of its slice, with a key whose parts have their widths
+-- the row is that of the entry's slice, and its key's parts have their widths
 pub record IsRowAt (x : EntryAt) (row : FindRow) : Type 0 where
   pub is_key : IsKey row.key
   pub key_is : key_bytes row.key ≡ take 24 (drop 1 x.entry)
@@ -37,13 +37,13 @@ pub record Names (x : EntryAt) (named : NamedSlice) : Type 0 where
   pub offset_is : named.offset ≡ offset_in x.entry
   pub size_is : named.size ≡ size_at x
 
--- the entries that answer under these bytes, which tell the order, name these slices
+-- the entries that answer for this prefix, and determine the order, name these slices
 pub record NamesAmong (prefix : List ℕ) (indexes : List (List (List ℕ))) (named : List NamedSlice) : Type 0 where
   pub answering : List EntryAt
   pub are : AreAnsweringAmong prefix indexes answering
   pub each : AllZip Names answering named
 
--- an entry of these indexes is that of a slice which lives under these bytes and has the digest
+-- an entry of these indexes is that of a slice that is live with this prefix and has the digest
 pub record LivesAmong (prefix digest : List ℕ) (indexes : List (List (List ℕ))) (x : EntryAt) : Type 0 where
   pub among : IsAmong indexes x
   pub lives : lives_under prefix (all_of indexes) x.entry ≡ true

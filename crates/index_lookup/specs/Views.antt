@@ -1,4 +1,4 @@
--- Answers of the code, as the definitions have them.
+-- Answers of the code, in the terms of the definitions.
 use Rattle.std.specs.Prelude.{◌≡◌, ℕ, Bool, true, false, List, [], ◌∷◌, map, take, drop, slice_get, slice_index_or}
 use Rattle.std.specs.Prelude.{Option, None, Some, Vec}
 use Rattle.std.specs.List.{AllZip}
@@ -18,11 +18,11 @@ use Rattle.index_lookup.specs.Among.{EntryAt}
 use Rattle.index_lookup.specs.Told.{AreFramesToldBy, IsToldBy}
 use Rattle.index_lookup.specs.declared.answers.EntryAnswers.{EntryAnswers}
 
--- what is told of a place
+-- the answer for an address
 abbrev pub told_view : Option OwnedFound → Option FoundRecord
 told_view own = option_map owned_view own
 
--- the frames of a place
+-- the frames for an address
 abbrev pub list_in : {A : Type 0} → Vec OwnedFrame A → List FrameRecord
 list_in list = owned_frames list.items
 
@@ -30,11 +30,12 @@ list_in list = owned_frames list.items
 abbrev pub borrowed_in : {A : Type 0} → Vec SourceFrame A → List FrameRecord
 borrowed_in list = map (λ frame. frame_view frame) list.items
 
--- the frames of places
+-- the frames for addresses
 abbrev pub frame_lists : EntryAnswers → List (List FrameRecord)
 frame_lists column = map list_in column.frames.items
 
--- what an entry tells of places, in their order, over these bytes of the indexes, and if lines are wanted the frames
+-- the answers of an entry for addresses, in their order, with these bytes of the indexes, and if lines are asked for
+-- the frames
 pub record IsColumnAt (texts : List (List ℕ)) (lines : Bool) (asked : List Where) (x : EntryAt)
     (column : EntryAnswers) : Type 0 where
   pub digest_is : column.digest.0 ≡ take 32 (drop 25 x.entry)
@@ -50,7 +51,7 @@ row_at number column = record {
   own = slice_index_or (map told_view column.owns.items) number None;
 }
 
--- what rows are together
+-- the answer of rows together
 abbrev pub answer_of : List OwnRow → AnswerRecord
 answer_of [] = Unanswered
 answer_of (row ∷ []) = Alone row.own
@@ -60,7 +61,7 @@ answer_of (row ∷ (other ∷ rows)) = Disputed (row ∷ (other ∷ rows))
 abbrev pub frames_at : ℕ → EntryAnswers → List FrameRecord
 frames_at number column = slice_index_or (frame_lists column) number []
 
--- those that are shown of columns, if lines are wanted
+-- the frames that are shown for columns, if lines are asked for
 abbrev pub shown_of : Bool → ℕ → List EntryAnswers → List (List FrameRecord)
 shown_of true number columns = map (frames_at number) columns
 shown_of false number columns = []

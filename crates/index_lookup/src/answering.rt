@@ -1,4 +1,4 @@
-//! The entries of several indexes that answer under a key.
+//! The entries of several indexes that answer for a key.
 
 ghost use Rattle.std.specs.Prelude.{IfOk, MatchOption, map};
 ghost use Rattle.archive_core.specs.Key.{key_bytes};
@@ -13,7 +13,7 @@ use memory::{Heap, NoMemory};
 use std::marker::Model;
 
 /// Entries of several indexes that answer together, in the order of their records. A contract sees each with the number
-/// of its index, its own number in that, both from 0 on, and its bytes.
+/// of its index, its own number in the index, both from 0, and its bytes.
 #[derive(Drop)]
 pub struct Answering {
     entries: Vec<Numbered, Heap>,
@@ -33,7 +33,7 @@ impl Answering {
     ghost use Rattle.std.specs.Prelude.{◌≡◌, map};
     ghost use Rattle.index_lookup.specs.InnerAnswering.{entry_at};
 
-    /// These entries.
+    /// Creates a value with these entries.
     fn of_entries(entries: Vec<Numbered, Heap>) -> Answering
         ensures { result ≡ map entry_at entries.items }
     {
@@ -48,12 +48,12 @@ impl Answering {
     }
 }
 
-/// The entries of these indexes that answer under a key, in the order of their records. Of the admissions under the key
-/// that no retirement of any index covers the companions answer, or else all of them. Each slice answers once: the
-/// entry of the first index stays.
+/// The entries of these indexes that answer for a key, in the order of their records. Among the admissions with the key
+/// that no retirement of any index covers, the companions answer; if there are none, all of them do. Each slice answers
+/// once, with its entry in the first index.
 ///
-/// `None` if the entries do not tell the order: two slices of one length answer that stand in two archives. Refused for
-/// want of memory alone.
+/// `None` if the entries do not determine the order: two slices of one length answer that are in two archives. Fails
+/// only if memory runs out.
 pub fn answering_entries(
     heap: &Heap,
     key: &SliceKey,

@@ -1,4 +1,4 @@
-//! What an index tells of several places under a key.
+//! The answers of indexes for several addresses under a key.
 
 ghost use Rattle.std.specs.Prelude.{◌≡◌, IfOk, map, slice_index_or, None};
 ghost use Rattle.archive_core.specs.Lookup.{Alone, answer_view, own_row, own_view};
@@ -11,18 +11,18 @@ use memory::{Heap, NoMemory};
 use table_source_frames::OwnedFrame;
 use table_symbols::OwnedFound;
 
-/// What the table of an entry tells.
+/// The answers of an entry's table.
 #[derive(Drop)]
 pub struct EntryAnswers {
-    /// The SHA-256 of its slice.
+    /// The SHA-256 of the entry's slice.
     pub digest: Digest,
-    /// What it tells of each place, in the order in which they were asked for.
+    /// The answer for each address, in the order in which they were asked for.
     pub owns: Vec<Option<OwnedFound>, Heap>,
-    /// The frames of each place in its slice; no list where no lines are wanted.
+    /// The frames for each address in the slice; no list if no lines are asked for.
     pub frames: Vec<Vec<OwnedFrame, Heap>, Heap>,
 }
 
-/// What an index tells of several places under a key: what each entry tells that answers, in the order of their
+/// The answers of indexes for several addresses under a key: those of each entry that answers, in the order of their
 /// records.
 #[derive(Drop)]
 pub struct Answers {
@@ -30,7 +30,7 @@ pub struct Answers {
 }
 
 impl EntryAnswers {
-    /// What is told of the place of this number.
+    /// The answer for the address with this number.
     fn own(&self, number: usize) -> Own<'_>
         ensures { own_view result ≡ slice_index_or (map told_view self.now.owns.items) number None }
     {
@@ -40,7 +40,7 @@ impl EntryAnswers {
         }
     }
 
-    /// The frames of the place of this number, borrowed.
+    /// The frames for the address with this number, borrowed. Fails only if memory runs out.
     fn frames(&self, heap: Heap, number: usize) -> Result<Vec<SourceFrame<'_>, Heap>, NoMemory>
         ensures { IfOk result (λ frames. borrowed_in frames ≡ frames_at number self.now) }
     {
@@ -62,7 +62,7 @@ fn borrowed_each(heap: Heap, frames: &[OwnedFrame]) -> Result<Vec<SourceFrame<'_
     Ok(borrowed)
 }
 
-/// The answer where one slice alone answers.
+/// The answer if only one slice answers.
 fn answer_of_one(own: Own<'_>) -> Answer<'_>
     ensures { answer_view result ≡ Alone (own_view own.entry) }
 {
@@ -72,7 +72,7 @@ fn answer_of_one(own: Own<'_>) -> Answer<'_>
     }
 }
 
-/// What several entries tell of the place of this number.
+/// The rows of several entries for the address with this number.
 fn rows_at(
     heap: Heap,
     columns: &[EntryAnswers],
@@ -87,7 +87,7 @@ fn rows_at(
     Ok(rows)
 }
 
-/// The frames of the place of this number in the slice of each entry.
+/// The frames for the address with this number in the slice of each entry.
 fn frames_of_each<'c>(
     heap: &Heap,
     columns: &'c [EntryAnswers],
@@ -105,8 +105,8 @@ fn frames_of_each<'c>(
 }
 
 impl Answers {
-    /// The answer for the place of this number, from 0 on, among those that were asked for. Refused for want of memory
-    /// alone, which is asked for only where several entries answer.
+    /// The answer for the address with this number, from 0, among those that were asked for. Fails only if memory runs
+    /// out: memory is needed only if several entries answer.
     pub fn answer(&self, heap: Heap, number: usize) -> Result<Answer<'_>, NoMemory>
         ensures { IfOk result (λ answer. answer_view answer ≡ answer_of (map (row_at number) self.now.columns.items)) }
     {
@@ -117,8 +117,8 @@ impl Answers {
         }
     }
 
-    /// The frames that are shown of the place of this number: those in the slice of each entry, in the order of the
-    /// answer, or no list where no lines are wanted. Refused for want of memory alone.
+    /// The frames that are shown for the address with this number: those in the slice of each entry, in the order of
+    /// the answer, or no list if no lines are asked for. Fails only if memory runs out.
     pub fn frames(
         &self,
         heap: &Heap,

@@ -1,15 +1,15 @@
-//! Why nothing is told.
+//! Why there is no answer.
 
-/// Why indexes tell nothing. An index is named by its number among those that were asked, and an entry by its number
-/// among the entries of that, each from 0 on.
+/// Why indexes have no answer. An index is named by its number among those that were asked, and an entry by its number
+/// among the entries of its index, each from 0.
 #[derive(Clone, Copy, Debug, PartialEq, Eq)]
 pub enum AnswerFault {
-    /// What stands where the table of this entry is stored is not what the entry vouches for.
+    /// The bytes stored for the table of this entry do not match the entry's claim.
     Damaged { input: u64, entry: u64 },
-    /// The table of this entry has no lines, though lines are wanted.
+    /// The table of this entry has no lines, though lines are asked for.
     NoLines { input: u64, entry: u64 },
-    /// The device of this index failed while a table was read that is stored at this offset.
+    /// The device of this index failed while the table stored at this offset was read.
     Device { input: u64, offset: u64 },
-    /// A growth of the memory was refused.
+    /// Memory ran out.
     OutOfMemory,
 }

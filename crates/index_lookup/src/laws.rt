@@ -1,7 +1,8 @@
-//! What entries tell of several places they tell of each, and what is stored for entries that answer. Each law is the
-//! contract of a function that does nothing.
+//! Laws about the answers of entries for several addresses and for each, and about the bytes stored for entries that
+//! answer. Each law is the contract of a function that does nothing.
 
-ghost use Rattle.std.specs.Prelude.{◌≡◌, ◌<◌, ℕ, Bool, Contains, List, [], Some, length, map, slice_get, slice_index_or};
+ghost use Rattle.std.specs.Prelude.{◌≡◌, ◌<◌, ℕ, Bool, Contains, List, []};
+ghost use Rattle.std.specs.Prelude.{Some, length, map, slice_get, slice_index_or};
 ghost use Rattle.std.specs.List.{AllZip};
 ghost use Rattle.table_checked_pages.specs.Pages.{AreStored};
 ghost use Rattle.dwarf_source_frames.specs.Frames.{FrameRecord};
@@ -14,8 +15,8 @@ ghost use Rattle.index_lookup.specs.AmongTold.{IsAnswerAmong, IsToldOfAmong};
 ghost use Rattle.index_lookup.specs.Views.{IsColumnAt, answer_of, row_at, shown_of};
 ghost use Rattle.index_lookup.specs.declared.answers.EntryAnswers.{EntryAnswers};
 
-/// What entries tell of several places they tell of each, and it is the answer where they answer, with the frames that
-/// are shown.
+/// The answers of entries for several addresses are their answers for each address, and the answer of the indexes if
+/// these are the entries that answer, with the frames that are shown.
 pub fn each_told()
     ensures told { (texts : List (List ℕ)) (answering : List EntryAt) (lines : Bool) (asked : List Where)
         (columns : List EntryAnswers) (number : ℕ) (none : Where)
@@ -29,8 +30,8 @@ pub fn each_told()
         (answer_of (map (row_at number) columns)) (shown_of lines number columns) }
 {}
 
-/// Where bytes are stored for an entry that answers, they begin with the head of a table of their size. So none answers
-/// for which no bytes are, as `symarch-keep` stores them for a slice that changed: it is damaged.
+/// The bytes stored for an entry that answers begin with the head of a table of their size. So an entry without stored
+/// bytes, as `symarch-keep` stores for a changed slice, does not answer: it is damaged.
 pub fn headed_among()
     ensures headed { (texts : List (List ℕ)) (indexes : List (List (List ℕ))) (prefix : List ℕ) (lines : Bool)
         (asked : Where) (answer : AnswerRecord) (frames : List (List FrameRecord)) (x : EntryAt) (text all : List ℕ)

@@ -1,17 +1,17 @@
-//! Answers out of several indexes: by their entries, and by the tables of those that answer.
+//! Answers from several indexes: by their entries, and by the tables of the entries that answer.
 //!
-//! Of the indexes the entries under a key are looked at, two runs that are found by halving, and of the tables of those
-//! that answer the pages that are needed, each compared with its digest. No slice is read.
+//! Only the entries with a key are read, two runs that are found by binary search, and only those pages of the tables
+//! of the entries that answer that are needed, each compared with its digest. No slice is read.
 //!
-//! - `fault`: why nothing is told;
-//! - `numbered`: an entry of one of several indexes, and what it says;
-//! - `retired`: what the retirements under a key are of; `live`: the entries that none of these covers;
+//! - `fault`: why there is no answer;
+//! - `numbered`: an entry of one of several indexes, and its fields;
+//! - `retired`: the keys and digests of the retirements with a key; `live`: the entries that none of these covers;
 //! - `order`: the order of their records; `answering`: [`answering_entries`], those that answer;
 //! - `named`: [`NamedSlice`], a slice that an entry names, and which of them answer or have a digest;
-//! - `own`: what a table tells of a place; `lines`: its frames in the slice;
-//! - `answers`: [`Answers`], what the tables of entries tell of several places; `told`: [`answer_among`], which makes
-//!   them;
-//! - [`laws`]: what is told of several places is told of each.
+//! - `own`: the answer of a table for an address; `lines`: its frames in the slice;
+//! - `answers`: [`Answers`], the answers of entries' tables for several addresses; `told`: [`answer_among`], which
+//!   finds them;
+//! - [`laws`]: the answers for several addresses are those for each address.
 #![tactic(auto)]
 
 mod answering;

@@ -1,4 +1,4 @@
-//! The source frames of places, by the line table of an entry.
+//! The source frames for addresses, from the line table of an entry.
 
 ghost use Rattle.std.specs.Prelude.{◌≡◌, ℕ, List, IfOk, IsOk, MatchOption, None, Some, false, map, true};
 ghost use Rattle.std.specs.List.{AllZip};
@@ -20,7 +20,7 @@ use table_checked_pages::{CheckFault, Pages};
 use table_source_frames::{LineTable, OwnedFrame};
 use table_symbols::Table;
 
-/// The frames of a place, by a line table that is opened, of a slice whose `__TEXT` has this `vmaddr`.
+/// The frames for an address, from an opened line table, for a slice whose `__TEXT` has this `vmaddr`.
 fn frames_of<P: Placed>(
     heap: Heap,
     device: &mut P,
@@ -42,7 +42,7 @@ fn frames_of<P: Placed>(
     }
 }
 
-/// The frames of several places, each list in its turn.
+/// The frames for several addresses, one list each, in order.
 fn frames_of_each<P: Placed>(
     heap: &Heap,
     device: &mut P,
@@ -67,7 +67,7 @@ fn frames_of_each<P: Placed>(
     Ok(lists)
 }
 
-/// The frames of several places, by a table that is opened, of a slice whose `__TEXT` has this `vmaddr`; none where the
+/// The frames for several addresses, from an opened table, for a slice whose `__TEXT` has this `vmaddr`; none if the
 /// slice has no lines.
 fn frames_by_table<P: Placed>(
     heap: &Heap,
@@ -92,7 +92,7 @@ fn frames_by_table<P: Placed>(
     Ok(Some(lists))
 }
 
-/// The same if lines are wanted, and else no list.
+/// The same if lines are asked for, otherwise no list.
 pub(crate) fn frames_if<P: Placed>(
     heap: &Heap,
     device: &mut P,

@@ -1,4 +1,4 @@
-//! The entries that live under a key.
+//! The entries that are live under a key.
 
 ghost use Rattle.std.specs.Prelude.{◌≡◌, ◌++◌, ◌<◌, IfOk, OnOk, filter, length, map};
 ghost use Rattle.std.specs.List.{list_any};
@@ -16,8 +16,8 @@ use archive_records::ADMISSION;
 use index_format::{Index, run_under};
 use memory::{Heap, NoMemory};
 
-/// Adds the entries of the index of this number that live under these bytes, in their order. Of its entries the
-/// admissions under these bytes are looked at.
+/// Adds the entries of the index with this number that are live with this prefix, in their order. Only its admissions
+/// with this prefix are read.
 fn gather(
     prefix: &[u8],
     retired: &[[u8; 56]],
@@ -46,7 +46,7 @@ fn gather(
     Ok(())
 }
 
-/// The entries of several indexes that live under these bytes, by what is retired.
+/// The entries of several indexes that are live with this prefix, without the retired ones.
 fn live_besides(
     heap: Heap,
     prefix: &[u8],
@@ -65,7 +65,7 @@ fn live_besides(
     Ok(live)
 }
 
-/// The entries of several indexes that live under these bytes, in their order.
+/// The entries of several indexes that are live with this prefix, in their order.
 pub(crate) fn live_under(
     heap: &Heap,
     prefix: &[u8],
@@ -86,14 +86,14 @@ fn has_companion(live: &[Numbered]) -> bool
     live.iter().any(|numbered| is_companion(&numbered.entry))
 }
 
-/// Leaves the companions.
+/// Keeps only the companions.
 fn keep_companions(live: &mut Vec<Numbered, Heap>)
     ensures { live.new.items ≡ filter (λ n. is_companion (entry_bytes n.entry)) live.old.items }
 {
     live.retain(|numbered| is_companion(&numbered.entry));
 }
 
-/// The entries of several indexes that answer under these bytes, in their order.
+/// The entries of several indexes that answer for this prefix, in their order.
 pub(crate) fn answering_entries_under(
     heap: &Heap,
     prefix: &[u8],

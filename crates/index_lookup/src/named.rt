@@ -1,4 +1,4 @@
-//! The slices that entries name, and where their records stand.
+//! The slices that entries name, and the offsets of their records.
 
 ghost use Rattle.std.specs.Prelude.{◌≡◌, ◌≢◌, Contains, IfOk, MatchOption, drop, map, take};
 ghost use Rattle.std.specs.List.{AllZip};
@@ -18,19 +18,19 @@ use memory::{Heap, NoMemory};
 /// A slice that an entry of one of several indexes names.
 #[derive(Clone, Copy)]
 pub struct NamedSlice {
-    /// The number of the index, and of its archive, from 0 on.
+    /// The number of the index, and of its archive, from 0.
     pub input: u64,
-    /// The number of the entry among those of the index, from 0 on.
+    /// The number of the entry in the index, from 0.
     pub number: u64,
-    /// The row that a list of the archive has for it.
+    /// The row for the slice in a list of the archive.
     pub row: FindRow,
-    /// How many bytes of the archive's text stand before the record.
+    /// The number of bytes before the record in the archive's text.
     pub offset: u64,
-    /// How many bytes the slice has.
+    /// The number of bytes of the slice.
     pub size: u64,
 }
 
-/// What an entry says of its slice.
+/// The row of an entry's slice.
 fn row_of(numbered: &Numbered) -> FindRow
     ensures is_key { IsKey result.key }
     ensures key { key_bytes result.key ≡ take 24 (drop 1 (entry_at numbered.now).entry) }
@@ -74,9 +74,9 @@ fn named_by_each(heap: Heap, entries: &[Numbered]) -> Result<Vec<NamedSlice, Hea
     Ok(named)
 }
 
-/// The slices that answer under a key, as the entries of these indexes name them, in the order of their records.
+/// The slices that answer for a key, as the entries of these indexes name them, in the order of their records.
 ///
-/// `None` where [`answering_entries`] says it. Refused for want of memory alone.
+/// `None` in the same case as for [`answering_entries`]. Fails only if memory runs out.
 pub fn named_among(
     heap: &Heap,
     key: &SliceKey,
@@ -94,7 +94,7 @@ pub fn named_among(
     }
 }
 
-/// The first of these entries that has the digest.
+/// The first of these entries with the digest.
 fn first_with(live: &[Numbered], digest: &Digest) -> Option<NamedSlice>
     ensures { MatchOption result
         ((x : EntryAt) → Contains (map entry_at live.now) x → digest_at x ≢ digest.now.0)
@@ -110,8 +110,8 @@ fn first_with(live: &[Numbered], digest: &Digest) -> Option<NamedSlice>
     None
 }
 
-/// A slice that lives under a key and has the digest, also if it does not answer, as an entry of these indexes names
-/// it: the first that does. Refused for want of memory alone.
+/// A slice that is live with a key and has the digest, even if it does not answer, from the first entry of these
+/// indexes that names it. Fails only if memory runs out.
 pub fn named_with(
     heap: &Heap,
     key: &SliceKey,

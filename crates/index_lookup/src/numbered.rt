@@ -1,4 +1,4 @@
-//! An entry of one of several indexes, and what an entry says.
+//! An entry of one of several indexes, and its fields.
 
 ghost use Rattle.std.specs.Prelude.{◌≡◌};
 ghost use Rattle.index_format.specs.Entry.{HasItsFields, entry_bytes};
@@ -8,10 +8,10 @@ ghost use Rattle.index_lookup.specs.Told.{is_companion};
 use archive_records::ENTRY_LEN;
 use index_format::IndexEntry;
 
-/// How many bytes the tag, the key and the digest of an entry are: its entry of a summary.
+/// The length of the tag, the key and the digest of an entry in bytes: its entry of a summary.
 pub(crate) const SLICE_LEN: usize = ENTRY_LEN;
 
-/// An entry, the number of its index, and its own number among the entries of that, each from 0 on.
+/// An entry, the number of its index, and its own number in the index, each from 0.
 #[derive(Clone, Copy)]
 pub(crate) struct Numbered {
     pub input: u64,

@@ -1,4 +1,4 @@
-//! What a table tells of a place.
+//! The answer of a table for an address.
 
 ghost use Rattle.std.specs.Prelude.{◌≡◌, ℕ, List, Some};
 ghost use Rattle.table_checked_pages.specs.Pages.{AreStored};
@@ -16,7 +16,7 @@ use memory::Heap;
 use table_checked_pages::CheckFault;
 use table_symbols::{OwnedFound, Table};
 
-/// What a table tells of a place.
+/// The answer of a table for an address.
 pub(crate) fn own_of<P: Placed>(
     heap: Heap,
     device: &mut P,

@@ -1,4 +1,4 @@
-//! What the retirements under a key are of.
+//! The keys and digests of the retirements with a key.
 
 ghost use Rattle.std.specs.Prelude.{◌≡◌, ◌++◌, IfOk, OnOk, length};
 ghost use Rattle.std.specs.List.Sorted.{IsSortedByKey};
@@ -21,7 +21,7 @@ fn compare(subject: &[u8; 56], other: &[u8; 56]) -> Ordering
     subject[..].cmp(&other[..])
 }
 
-/// Adds what the retirements of an index under these bytes are of. None of its other entries is looked at.
+/// Adds the keys and digests of an index's retirements with this prefix. No other entry of the index is read.
 fn gather(prefix: &[u8], index: &Index, retired: &mut Vec<[u8; 56], Heap>) -> Result<(), NoMemory>
     requires { length prefix.now ≡ 24 }
     ensures { OnOk result (retired.new.items ≡ retired.old.items ++ retired_of prefix.now index.now) }
@@ -35,7 +35,7 @@ fn gather(prefix: &[u8], index: &Index, retired: &mut Vec<[u8; 56], Heap>) -> Re
     Ok(())
 }
 
-/// What the retirements of several indexes under these bytes are of, in the order of their entries.
+/// The keys and digests of the retirements of several indexes with this prefix, in the order of their entries.
 fn gathered(heap: Heap, prefix: &[u8], indexes: &[Index]) -> Result<Vec<[u8; 56], Heap>, NoMemory>
     requires { length prefix.now ≡ 24 }
     ensures { IfOk result (λ retired. retired.items ≡ retired_of prefix.now (all_of indexes.now)) }
@@ -47,7 +47,7 @@ fn gathered(heap: Heap, prefix: &[u8], indexes: &[Index]) -> Result<Vec<[u8; 56]
     Ok(retired)
 }
 
-/// What the retirements of several indexes under these bytes are of, in the order of its bytes.
+/// The keys and digests of the retirements of several indexes with this prefix, in the order of their bytes.
 pub(crate) fn retired_under(
     heap: Heap,
     prefix: &[u8],
@@ -63,7 +63,7 @@ pub(crate) fn retired_under(
     Ok(retired)
 }
 
-/// Whether what an entry is of is among these. It is found by halving.
+/// Whether the key and the digest of an entry are among these. They are found by binary search.
 pub(crate) fn is_retired(retired: &[[u8; 56]], entry: &IndexEntry) -> bool
     requires { IsSortedByKey (λ subject. subject) (slice_cmp nat_cmp) retired.now }
     ensures { result ≡ is_retired retired.now (entry_bytes entry.now) }

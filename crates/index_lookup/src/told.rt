@@ -1,4 +1,4 @@
-//! What the table of an entry tells of several places, and those of several entries.
+//! The answers of an entry's table for several addresses, and those of several entries.
 
 ghost use Rattle.std.specs.Prelude.{◌≡◌, ◌<◌, ◌^◌, ℕ, List, Contains, IfErr, IfOk, IsOk, MatchOption, None, OnOk, Some};
 ghost use Rattle.std.specs.Prelude.{length, map, true};
@@ -28,7 +28,7 @@ use memory::Heap;
 use table_checked_pages::{CheckFault, Claim};
 use table_symbols::{OwnedFound, Table};
 
-/// What a table that is opened tells of several places.
+/// The answers of an opened table for several addresses.
 fn owns_of<P: Placed>(
     heap: &Heap,
     device: &mut P,
@@ -55,8 +55,8 @@ fn owns_of<P: Placed>(
     Ok(owns)
 }
 
-/// What the table that a claim names tells of several places, after the table, which is opened, and the `vmaddr` of the
-/// first segment named `__TEXT`.
+/// The answers for several addresses of the table of a claim, after the opened table and the `vmaddr` of the first
+/// segment named `__TEXT`.
 fn owns_by_claim<P: Placed>(
     heap: &Heap,
     device: &mut P,
@@ -76,8 +76,8 @@ fn owns_by_claim<P: Placed>(
     Ok((table, base, owns))
 }
 
-/// What the table of an entry tells of several places, and if lines are wanted their frames; none if it has no lines
-/// then. The symbols are asked for before the frames.
+/// The answers of an entry's table for several addresses, and if lines are asked for their frames; none if lines are
+/// asked for and it has none. The symbols are looked up before the frames.
 fn column_of<P: Placed>(
     heap: &Heap,
     device: &mut P,
@@ -104,7 +104,7 @@ fn column_of<P: Placed>(
     }))
 }
 
-/// What the table of an entry tells of several places. The device is that of its index.
+/// The answers of an entry's table for several addresses. The device is that of its index.
 fn told_by<P: Placed>(
     heap: &Heap,
     device: &mut P,
@@ -127,7 +127,7 @@ fn told_by<P: Placed>(
     }
 }
 
-/// The same, by the device of its index.
+/// The same, with the device of its index among several.
 fn told_at<P: Placed>(
     heap: &Heap,
     devices: &mut [P],
@@ -149,7 +149,7 @@ fn told_at<P: Placed>(
     )
 }
 
-/// What the tables of entries tell of several places, each in its column. One table is open at a time.
+/// The answers of entries' tables for several addresses, a column for each entry. One table is open at a time.
 fn told_by_each<P: Placed>(
     heap: &Heap,
     devices: &mut [P],
@@ -173,14 +173,14 @@ fn told_by_each<P: Placed>(
     Ok(columns)
 }
 
-/// What the tables of entries that answer tell of several places, and if lines are wanted the frames of these in each
-/// slice. The devices are those of the indexes, in their order. One may be missing if none of these entries stands in
+/// The answers for several addresses of the tables of the entries that answer, and if lines are asked for the frames in
+/// each slice. The devices are those of the indexes, in their order. One may be missing if none of these entries is in
 /// its index. One table is open at a time.
 ///
 /// # Errors
 ///
-/// `Damaged` at the first entry whose table is not what the entry vouches for, or `NoLines` whose table has no lines, if
-/// they are wanted. The entries are asked in their order, each for its symbols before its lines.
+/// `Damaged` for the first entry whose table does not match the entry's claim, or `NoLines` for the first whose table
+/// has no lines, if they are asked for. The entries are asked in their order, each for its symbols before its lines.
 pub fn answer_among<P: Placed>(
     heap: &Heap,
     devices: &mut [P],

@@ -1,10 +1,10 @@
-//! What follows for each type that joins, from the three laws of its order alone, and that a finite set has one
-//! ascending list.
+//! Laws about each type with a join, from the three laws of its order alone; and about the one ascending list of a
+//! finite set.
 //!
-//! Each law is the contract of a function with an empty body, and speaks of contents and their least
-//! bounds: `IsLeastAbove is_content below x y z` says that `z` is the join of `x` and `y`. A caller
-//! that wants a law calls its function. The laws are those of a join semilattice, on which the
-//! convergence of state-based objects rests (INRIA RR-7506, 2011).
+//! Each law is the contract of a function with an empty body. Its clauses are about contents and their least upper
+//! bounds: `IsLeastAbove is_content below x y z` says that `z` is the join of `x` and `y`. A caller that needs a law
+//! calls its function. The laws are those of a join semilattice, from which the convergence of state-based objects
+//! follows (INRIA RR-7506, 2011).
 ghost use Rattle.std.specs.Prelude.{◌≡◌, List, length};
 ghost use Rattle.std.specs.declared.cmp.Ordering.{Ordering};
 ghost use Rattle.std.specs.Cmp.{IsTotalOrder};
@@ -14,7 +14,7 @@ ghost use Rattle.join_core.specs.Listing.{IsListing, listing};
 
 use crate::Join;
 
-/// Two contents have a join, and where a join of them stopped half way is below it.
+/// Two contents have a join, and a content at which their join stopped half way is below it.
 pub fn exists<J: Join>()
     ensures joined { (x y : J.Content)
         → J.is_content x
@@ -27,7 +27,7 @@ pub fn exists<J: Join>()
         → (joined : J.Content) × IsLeastAbove J.is_content J.below x y joined × J.below mid joined }
 {}
 
-/// Two contents have one join at most.
+/// Two contents have at most one join.
 pub fn unique<J: Join>()
     ensures { (x y joined again : J.Content)
         → IsLeastAbove J.is_content J.below x y joined
@@ -35,7 +35,7 @@ pub fn unique<J: Join>()
         → joined ≡ again }
 {}
 
-/// Joining in either grouping gives one content: `(x ∨ y) ∨ z` is `x ∨ (y ∨ z)`.
+/// Joins in either grouping have the same result: `(x ∨ y) ∨ z` is `x ∨ (y ∨ z)`.
 pub fn associative<J: Join>()
     ensures { (x y z xy yz left right : J.Content)
         → IsLeastAbove J.is_content J.below x y xy
@@ -45,7 +45,7 @@ pub fn associative<J: Join>()
         → left ≡ right }
 {}
 
-/// Joining in either order gives one content: `x ∨ y` is `y ∨ x`.
+/// Joins in either order have the same result: `x ∨ y` is `y ∨ x`.
 pub fn commutative<J: Join>()
     ensures { (x y left right : J.Content)
         → IsLeastAbove J.is_content J.below x y left
@@ -53,12 +53,12 @@ pub fn commutative<J: Join>()
         → left ≡ right }
 {}
 
-/// Joining a content with itself changes nothing: `x ∨ x` is `x`.
+/// A join of a content with itself changes nothing: `x ∨ x` is `x`.
 pub fn idempotent<J: Join>()
     ensures { (x : J.Content) → J.is_content x → IsLeastAbove J.is_content J.below x x x }
 {}
 
-/// What holds no more joins to no more: where `x` is below `y`, `x ∨ z` is below `y ∨ z`.
+/// Joins preserve the order: if `x` is below `y`, `x ∨ z` is below `y ∨ z`.
 pub fn monotone<J: Join>()
     ensures { (x y z xz yz : J.Content)
         → J.below x y
@@ -67,8 +67,8 @@ pub fn monotone<J: Join>()
         → J.below xz yz }
 {}
 
-/// A join that stopped half way and is asked for again gives what it would have given: `mid ∨ other`
-/// is `old ∨ other` wherever `mid` is above `old` and below that join.
+/// A join that stopped half way and is repeated has the same result: `mid ∨ other` is `old ∨ other` if `mid` is above
+/// `old` and below that join.
 pub fn resumed<J: Join>()
     ensures { (old mid other joined : J.Content)
         → IsLeastAbove J.is_content J.below old other joined
@@ -77,8 +77,8 @@ pub fn resumed<J: Join>()
         → IsLeastAbove J.is_content J.below mid other joined }
 {}
 
-/// A finite set has one list of its members in ascending order, and that is its `listing`: under each order that is
-/// total and ties no two different members.
+/// A finite set has one list of its members in ascending order, and that is its `listing`: for each total order in
+/// which no two different members compare equal.
 pub fn one_listing<K>()
     ensures listed { (R : K → K → Ordering) (s : FinSet R)
         → IsTotalOrder R

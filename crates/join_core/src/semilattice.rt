@@ -1,41 +1,40 @@
-//! Types that join.
+//! Types with a join.
 ghost use Rattle.std.specs.Prelude.{◌≡◌, ◌↔◌, OnErr, OnOk, IsTrue};
 ghost use Rattle.join_core.specs.Bound.{IsLeastAbove, IsTowards};
 
 use memory::NoMemory;
 
-/// A type whose contents join, as replicas of a state-based object do (INRIA RR-7506, 2011).
+/// A type whose contents join, as the replicas of a state-based object do (INRIA RR-7506, 2011).
 ///
-/// The order is on contents and not on values: two values of one content may differ in what their
-/// type keeps beside it, as room that is reserved.
+/// The order is on contents and not on values: two values with the same content may differ in other fields of their
+/// type, for example in reserved memory.
 pub trait Join {
-    /// The type of contents, which clauses name. No call makes or takes one.
+    /// The type of contents, which clauses name. No value of it exists at run time.
     type Content;
 
     // The content of a value.
     ghost content: { Self → Self.Content };
 
-    // Which values of that type are contents.
+    // The values of that type that are contents.
     ghost is_content: { Self.Content → Type 0 };
 
     // The order on contents: the first holds no more than the second.
     ghost below: { Self.Content → Self.Content → Type 0 };
 
-    /// Takes in the content of `other`.
+    /// Adds the content of `other`.
     ///
-    /// Refused for want of memory alone. A part of `other` may then have been taken in, and the call
-    /// may be made again: `laws::resumed` says that it gives what this one would have given.
+    /// Fails only if memory runs out. A part of `other` may then have been added, and the call may be repeated:
+    /// `laws::resumed` says that the result is then that of a first call without a failure.
     fn join(&mut self, other: &Self) -> Result<(), NoMemory>
         ensures joined { OnOk result
             (IsLeastAbove is_content below (content self.old) (content other.now) (content self.new)) }
         ensures refused { OnErr result
             (IsTowards is_content below (content self.old) (content other.now) (content self.new)) };
 
-    /// Takes over the content of `other`, without a copy of what it holds. Otherwise as [`join`](Join::join).
+    /// Adds the content of `other`, which is moved and not copied. Otherwise as [`join`](Join::join).
     ///
-    /// A refusal drops `other`, of which a part may have been taken over. So a caller that wants to make the call again
-    /// makes `other` again from where it had it, as by reading its text once more; or it calls `join`, which leaves
-    /// `other` as it was.
+    /// A failure drops `other`, of which a part may have been added. To call again, a caller makes `other` again from
+    /// its source, for example by reading its text once more; or it calls `join`, which leaves `other` unchanged.
     fn absorb(&mut self, other: Self) -> Result<(), NoMemory>
         ensures joined { OnOk result
             (IsLeastAbove is_content below (content self.old) (content other) (content self.new)) }

@@ -35,7 +35,7 @@ use Rattle.archive_records.proofs.Ends.{ends, is_three, ending_is}
 use Rattle.archive_records.proofs.Puts.{concat-push}
 use Rattle.archive_records.proofs.Longest.{Takes, is_end-grows}
 use Rattle.archive_records.proofs.RecordSteps.{InOrder-push}
-use Rattle.archive_records.proofs.Listed.{operations_in, IsOperationsText-text}
+use Rattle.archive_records.proofs.OperationRecords.{operations_in, IsOperationsText-text}
 use Rattle.archive_records.proofs.Contents.{AreEntries-entries, text_of_summary, summary_text-entries}
 use Rattle.archive_records.specs.declared.format.Format.{Format}
 use Rattle.archive_records.specs.declared.format.Format.TheVariants.{Archive, OldArchive, Operations as Operations_file, Summary as Summary_file}

@@ -1,13 +1,13 @@
--- The file at the path of an output after a crash, after some of the calls that were made for it: a rename replaces a
--- file in one step, and bytes that were synced stay.
+-- The file at the path of an output after a crash that follows some of the calls for it. A rename replaces a file in
+-- one step, and synced bytes survive.
 use Rattle.std.specs.Prelude.{◌≡◌, ℕ, Bool, true, false, ◌||◌, List, [], ◌++◌, fold, Option, Some}
 use Rattle.std.specs.Str.{bytes_eq}
 use Rattle.cli_files.specs.FileCalls.{FileCall, Creates, Opens, Writes, Syncs, Renames, SyncsFolder, Removes}
 use Rattle.cli_files.specs.FileCalls.{Finds, FindsNothing, FindsLink, FindsNoLink, FindsTaken, Leads, Begins, Gives}
 use Rattle.cli_files.specs.FileCalls.{Compares, WantsMemory, Refuses}
 
--- The draft after some calls: its bytes, whether they are on the disk, whether it was renamed to the target, whether
--- that is on the disk, and whether a call was made at the target itself.
+-- The draft after some calls: its bytes, whether they are synced, whether it was renamed to the target, whether the
+-- rename is synced, and whether a call was made on the target itself.
 pub record DraftState : Type 0 where
   pub bytes : List ℕ
   pub synced : Bool
@@ -15,11 +15,11 @@ pub record DraftState : Type 0 where
   pub kept : Bool
   pub touched : Bool
 
--- there is none
+-- there is no draft
 abbrev pub no_draft : DraftState
 no_draft = record { bytes = []; synced = false; renamed = false; kept = false; touched = false }
 
--- the draft after one call more, of which one that only asks, or failed, changes nothing
+-- the draft after one more call; a call that only reads, or failed, changes nothing
 abbrev pub behind : List ℕ → DraftState → FileCall → DraftState
 behind target d (Finds path found) = d
 behind target d (FindsNothing path) = d
@@ -45,13 +45,13 @@ behind target d (Renames draft to) = record d { renamed = d.renamed || bytes_eq 
 behind target d (SyncsFolder path) = record d { kept = d.renamed }
 behind target d (Removes path) = record d { touched = d.touched || bytes_eq path target }
 
--- after all of them
+-- the draft after all calls
 abbrev pub replay : List ℕ → List FileCall → DraftState
 replay target calls = fold (behind target) no_draft calls
 
--- What a crash may leave at the target: what was there, unless the renaming is on the disk; what the draft has, where
--- it was renamed and its bytes are on the disk; and anything, where it was renamed and they are not, or where the
--- target itself was touched.
+-- The possible content of the target after a crash: the earlier file, unless the rename is synced; the draft, if it was
+-- renamed and its bytes are synced; and anything, if it was renamed and they are not synced, or if the target itself
+-- was changed.
 pub data MayBeAt (before : Option (List ℕ)) (d : DraftState) : Option (List ℕ) → Type 0 where
   Old : d.kept ≡ false → MayBeAt before d before
   New : d.renamed ≡ true → d.synced ≡ true → MayBeAt before d (Some d.bytes)

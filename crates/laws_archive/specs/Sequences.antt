@@ -1,5 +1,5 @@
--- Archives that commands write in any order and number, each from archives that earlier ones wrote: the operations that
--- each is made of.
+-- Archives that commands write in any order and number, each from archives that earlier commands wrote, with the
+-- operations from which each is made.
 use Rattle.std.specs.Prelude.{◌≡◌, ℕ, List, [], ◌∷◌, Some, map}
 use Rattle.std.specs.List.{AllZip}
 use Rattle.std.specs.FinSet as set
@@ -25,7 +25,7 @@ use Rattle.command_write.specs.Migrate.{migrate}
 use Rattle.command_write.specs.PassedOver.{Becomes, EachCounted, Outcome, admit_passing, images_from}
 use Rattle.command_write.specs.Retire.{retire}
 
--- these operations, each by its record
+-- the set of the records of these operations
 abbrev pub as_set : List Operation → Operations
 as_set operations = set.from_list (map record_bytes operations)
 
@@ -38,8 +38,8 @@ abbrev pub HasAtOut : Out → List ℕ → Type 0
 HasAtOut out text = (out.draft.old ≡ Some []) × (out.published_new ≡ Some text)
 
 mutual
-  -- A command wrote this text to OUT, and these are the operations that it is made of: those of its archives and those
-  -- that it adds. R is the type of the inputs.
+  -- A command wrote this text to OUT from these operations: those of its archives and those that it adds. R is the type
+  -- of the inputs.
   pub data IsOutOf (R : Type 0) : List ℕ → Operations → Type 0 where
     -- `new`: none
     ByNew : IsOutOf R (written set.empty) set.empty
@@ -49,7 +49,7 @@ mutual
         → AllZip IsGiven files texts
         → Writes (admit input files) text
         → IsOutOf R text (set.union o (as_set (map Admit (images_of texts))))
-    -- `admit --keep-going`: those of IN, and the admissions of the images of the files that are accepted
+    -- `admit --keep-going`: those of IN, and the admissions of the images of the accepted files
     ByAdmitPassing : (opening : R → Opening) (input : Reader R) (files : List (Reader R)) (o : Operations)
         (outcomes : List Outcome) (text : List ℕ)
         → IsInputOf R input o
@@ -88,7 +88,7 @@ mutual
         → Writes (delta archive summary) text
         → IsOutOf R text (exchange.delta (content_of o) entries)
 
-  -- An archive that a command reads: the OUT of one, or what version 1 wrote of these operations.
+  -- An archive that a command reads: the OUT of a command, or the text of version 1 for these operations.
   pub data IsInputOf (R : Type 0) : Reader R → Operations → Type 0 where
     OfCommand : (input : Reader R) (o : Operations) (text : List ℕ)
         → IsOutOf R text o

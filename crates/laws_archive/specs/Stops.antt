@@ -1,4 +1,4 @@
--- Where a command is stopped that writes OUT while it still reads: what is left of OUT. The words of laws.
+-- The state of OUT after a command is stopped that writes OUT while it still reads. Definitions for laws.
 use Rattle.std.specs.Prelude.{◌≡◌, ◌<◌, ℕ, List, [], IfSome, length, take}
 use Rattle.std.specs.FinSet as set
 use Rattle.std.specs.Io.KnownBytes.{Appends}
@@ -9,14 +9,14 @@ use Rattle.command_common.specs.Ends.{Command, IsStopped, Streamed}
 use Rattle.command_common.specs.Inputs.{IsGiven, IsGivenArchive, IsKnown, Reader}
 use Rattle.command_common.specs.Outputs.{Out, PublishesNothing, Takes, Writer}
 
--- the text begins with these bytes, and has more
+-- the text begins with these bytes, and is longer
 abbrev pub BeginsWith : List ℕ → List ℕ → Type 0
 BeginsWith text bytes = (n : ℕ) × (n < length text) × (bytes ≡ take n text)
 
--- OUT is as it was, and nothing was reported. Its draft, which may be a pipe, took these bytes. Where it tells its own,
--- they are no archive's text; and if the bytes of all inputs are known, the text that accepted inputs make begins with
--- them. Whatever bytes the first input has, so does the text that is made of an archive in its place whose content is
--- what the good records of those bytes make.
+-- OUT is unchanged, and nothing was reported. Its draft, which may be a pipe, accepted some bytes. If the draft's
+-- contents are known, these are not the text of an archive; and if the bytes of all inputs are known, the text for
+-- accepted inputs begins with them. For any bytes of the first input, so does the text that is made from an archive in
+-- its place with the content of the good records of those bytes.
 pub record LeavesBeginning {R : Type 0} (command : Reader R → Command) (input : Reader R) (OthersKnown : Type 0)
     (out : Out) (report : Writer) : Type 0 where
   pub kept : PublishesNothing out
@@ -32,8 +32,8 @@ pub record LeavesBeginning {R : Type 0} (command : Reader R → Command) (input 
       → IsGivenArchive sound (content_of (set.from_list records)) → (command sound).Makes text told
       → BeginsWith text bytes)
 
--- So it is wherever the command is stopped before its text is whole: an input is refused, the draft fails, or memory
--- runs out.
+-- The same holds whenever the command is stopped before its text is complete: an input is refused, the draft fails, or
+-- memory runs out.
 abbrev pub LeavesBeginningIfStopped : {R : Type 0} → Streamed → (Reader R → Command) → Reader R → Type 0 → Out
     → Writer → Type 0
 LeavesBeginningIfStopped streamed command input OthersKnown out report =

@@ -1,7 +1,7 @@
-//! What holds of records, contents, joins, summaries, rows and answers.
+//! Laws of records, contents, joins, summaries, rows and answers.
 //!
-//! Each law is the contract of a function that does nothing but call other laws, and speaks of the definitions alone: a
-//! caller that wants a law calls its function.
+//! Each law is the contract of a function that only calls other laws, and is about the definitions alone: a caller that
+//! needs a law calls its function.
 ghost use Rattle.std.specs.Prelude.{◌≡◌, ◌⊎◌, ◌↔◌, ◌&&◌, ℕ, ◌+◌, ◌≤◌, Bool, List, [], ◌∷◌, ◌++◌};
 ghost use Rattle.std.specs.Prelude.{true, false, not, if◌then◌else◌, filter, length, Contains};
 ghost use Rattle.std.specs.Ordering.{nat_cmp};
@@ -38,7 +38,7 @@ use join_core::laws::{
 };
 use macho_symbols::laws::one_nearest;
 
-/// An admission's record has 33 bytes before the slice; a retirement's has 57.
+/// The record of an admission has 33 bytes before the slice; that of a retirement has 57 bytes.
 pub fn record_lengths()
     ensures admission { (slice : List ℕ) → IsValid slice → length (admission_record slice) ≡ 33 + length slice }
     ensures retirement { (key : SliceKey) (digest : List ℕ)
@@ -47,7 +47,7 @@ pub fn record_lengths()
         → length (retirement_record key digest) ≡ 57 }
 {}
 
-/// No record begins another: a text that is a row of records falls into them in one way.
+/// No record is the beginning of another: a text that is a sequence of records is split into them in one way.
 pub fn no_record_begins_another()
     ensures { (r s rest : List ℕ) → IsRecord r → IsRecord s → s ≡ r ++ rest → rest ≡ [] }
 {}
@@ -60,8 +60,8 @@ pub fn one_record_each()
     ensures one { (a b : Operation) → IsOperation a → IsOperation b → record_bytes a ≡ record_bytes b → a ≡ b }
 {}
 
-/// The operations of a content have one list in the ascending byte order of their records, and `listing`, of which
-/// `Archive::record_at` gives the members, is that list.
+/// The operations of a content have one list in the ascending byte order of their records, and `listing`, whose members
+/// `Archive::record_at` returns, is that list.
 pub fn one_listing_of_records()
     ensures listed { (o : Operations) → IsListing (slice_cmp nat_cmp) o (listing o) }
     ensures one { (o : Operations) (records : List (List ℕ))
@@ -72,9 +72,9 @@ pub fn one_listing_of_records()
     one_listing::<Slice>();
 }
 
-/// Contents are a join semilattice (INRIA RR-7506, 2011): the join of two is their
-/// least upper bound; grouping, order and repeats do not count; what holds no more joins to no
-/// more; and a join that stopped half way gives the same when it is asked for again.
+/// Contents are a join semilattice (INRIA RR-7506, 2011): the join of two is their least upper bound; grouping, order
+/// and repeats do not matter; the join is monotone; and a join that stopped half way has the same result when it is
+/// called again.
 pub fn contents_join()
     ensures least { (o p : Operations) → IsContent o → IsContent p → IsLeastAbove IsContent IsBelow o p (joined o p) }
     ensures associative { (o p q : Operations)
@@ -106,7 +106,7 @@ pub fn contents_join()
     resumed::<PlainArchive>();
 }
 
-/// What each archive's join gives is what the operations of both contents make.
+/// The join of each archive type is the content of the operations of both contents.
 pub fn join_gives_union<A: Archive>()
     ensures { (o p both : Operations)
         → IsContent o
@@ -115,14 +115,14 @@ pub fn join_gives_union<A: Archive>()
         → both ≡ joined o p }
 {}
 
-/// The join of the contents that two sets of operations make is the content that both sets make together.
+/// The join of the contents of two sets of operations is the content of both sets together.
 pub fn migrate_joins()
     ensures { (o p : Operations) → joined (content_of o) (content_of p) ≡ content_of (set.union o p) }
 {}
 
-/// The content that a set of operations makes has those that it does not cover. It covers the admissions of those
-/// slices of which the retirement of their key and SHA-256 is there, and no retirement. So each slice that is admitted
-/// in a content is live.
+/// The content of a set of operations has those that the set does not cover. It covers the admissions of slices whose
+/// retirement, by key and SHA-256, is in the set, and no retirement. So each slice that is admitted in a content is
+/// live.
 pub fn contents_in_words()
     ensures made { (o : Operations) (r : List ℕ)
         → set.contains (content_of o) r ≡ (set.contains o r && not (is_covered o r)) }
@@ -141,8 +141,7 @@ pub fn contents_in_words()
         → IsLive o (key_of slice) slice }
 {}
 
-/// A content is below another just where its retirements are there, and each of its live slices is live there or
-/// covered.
+/// A content is below another exactly if the other has its retirements, and has or covers each of its live slices.
 pub fn order_in_words()
     ensures retirements { (o p : Operations) (key : SliceKey) (digest : List ℕ)
         → IsBelow o p
@@ -165,13 +164,12 @@ pub fn order_in_words()
         → IsBelow o p }
 {}
 
-/// An operation changes a content just where the content with it is another one.
+/// An operation changes a content exactly if the content with it is a different one.
 pub fn unchanged_is_the_same()
     ensures { (o : Operations) (r : List ℕ) → IsMade o → (changes o r ≡ false) ↔ (with_record o r ≡ o) }
 {}
 
-/// The same operations, taken in any order and with any repeats, give one content: the join with
-/// what they make.
+/// The same operations, added in any order and with any repeats, give one content: the join with their own content.
 pub fn takes_in_any_order()
     ensures order { (o : Operations) (rs ss : List (List ℕ))
         → IsMade o
@@ -182,8 +180,8 @@ pub fn takes_in_any_order()
         → with_records o rs ≡ joined o (content_of (set.from_list rs)) }
 {}
 
-/// How many records are new is counted in the order in which they come: each that changes what those before it left is
-/// one more. They are no more than there are records.
+/// The number of new records is counted in order: each record that changes the content of the earlier ones adds one.
+/// There are no more new records than records.
 pub fn new_ones_in_turn()
     ensures none { (o : Operations) → new_among o [] ≡ 0 }
     ensures in_turn { (o : Operations) (r : List ℕ) (rs : List (List ℕ))
@@ -191,8 +189,8 @@ pub fn new_ones_in_turn()
     ensures within { (o : Operations) (rs : List (List ℕ)) → new_among o rs ≤ length rs }
 {}
 
-/// Each new admission is one more in the content. A retirement that is new is one more, too, and the slices that it
-/// covers are gone.
+/// Each new admission adds one record to the content. A new retirement adds one record, too, and removes the slices
+/// that it covers.
 pub fn new_admissions_are_added()
     ensures { (o : Operations) (rs : List (List ℕ))
         → IsMade o
@@ -200,7 +198,7 @@ pub fn new_admissions_are_added()
         → set.len (with_records o rs) ≡ set.len o + new_among o rs }
 {}
 
-/// Operations that were taken in part, and are taken again, all of them, give what all would have given at first.
+/// If operations were added in part, and then all are added again, the result is that of adding all at once.
 pub fn taking_each_resumed()
     ensures { (o mid : Operations) (rs : List (List ℕ))
         → IsContent o
@@ -208,7 +206,7 @@ pub fn taking_each_resumed()
         → with_records mid rs ≡ with_records o rs }
 {}
 
-/// What was retired never comes back: no content above one that retires a slice has it live.
+/// A retired slice never returns: no content above one that retires a slice has it live.
 pub fn retired_stays_retired()
     ensures { (o p : Operations) (key : SliceKey) (slice : List ℕ)
         → set.contains o (retirement_record key (sha256 slice)) ≡ true
@@ -217,8 +215,8 @@ pub fn retired_stays_retired()
         → ⊥ }
 {}
 
-/// The entry of an admission is its tag, its key and the SHA-256 of its slice; that of a retirement is its record.
-/// Each has 57 bytes.
+/// The entry of an admission is its tag, its key and the SHA-256 of its slice; that of a retirement is its record. Each
+/// has 57 bytes.
 pub fn entries_in_words()
     ensures admission { (slice : List ℕ)
         → IsValid slice
@@ -243,8 +241,8 @@ pub fn one_entry()
         × (sha256 other.slice ≡ sha256 slice) }
 {}
 
-/// Where no slice of the one content has the SHA-256 of a different slice of the other, operations of the two with
-/// one entry are one operation.
+/// If no slice of one content has the SHA-256 of a different slice of the other, operations of the two with one entry
+/// are one operation.
 pub fn digests_differ()
     ensures { (o p : Operations) (r s : List ℕ)
         → IsContent o
@@ -256,8 +254,8 @@ pub fn digests_differ()
         → r ≡ s }
 {}
 
-/// A summary has the entry of each operation of a content and no other. A delta is the content of those operations
-/// whose entries are not there, in their order.
+/// A summary has the entry of each operation of a content and no other. A delta is the content of the operations whose
+/// entries are not in the summary, in order.
 pub fn deltas_in_words()
     ensures summary { (o : Operations) (e : List ℕ)
         → (set.contains (summary o) e ≡ true) ↔ ((r : List ℕ) × (set.contains o r ≡ true) × (entry r ≡ e)) }
@@ -269,10 +267,10 @@ pub fn deltas_in_words()
     ensures below { (o : Operations) (s : Entries) → IsContent o → IsBelow (delta o s) o }
 {}
 
-/// A content that takes in a delta against its own summary, or against an older one, is above the content that the
-/// delta was made of, where no slice of the one has the SHA-256 of a different slice of the other. Of an older one,
-/// each entry is that of an operation that the content still has, or of a slice that it has retired since. Whatever the
-/// entries and the slices, it is below the join of both.
+/// A content that joins a delta for its own summary, or for an older one, is above the content from which the delta was
+/// made, if no slice of one has the SHA-256 of a different slice of the other. Each entry of an older summary is that
+/// of an operation that the content still has, or of a slice that it has retired since. For any entries and slices, it
+/// is below the join of both.
 pub fn delta_brings_above()
     ensures above { (o p : Operations) (s : Entries)
         → IsContent o
@@ -306,8 +304,8 @@ pub fn one_list()
     ensures one { (o : Operations) (rows others : List FindRow) → IsList o rows → IsList o others → rows ≡ others }
 {}
 
-/// What a search for a UUID tells is the part of the list that is under it, and the list is such parts, one after
-/// another, UUIDs ascending.
+/// The rows of a search for a UUID are the part of the list under it, and the list consists of such parts, in ascending
+/// order of UUIDs.
 pub fn finds_are_parts()
     ensures part { (o : Operations) (uuid : List ℕ) (rows : List FindRow)
         → IsList o rows
@@ -334,7 +332,7 @@ pub fn one_find_name()
         → rows ≡ others }
 {}
 
-/// The rows of a UUID tell how many slices answer under it and an architecture.
+/// The rows of a UUID determine how many slices answer under it and an architecture.
 pub fn rows_count_answering()
     ensures { (o : Operations) (key : SliceKey) (rows : List FindRow)
         → IsContent o
@@ -352,7 +350,7 @@ pub fn one_answering()
         → slices ≡ others }
 {}
 
-/// A content, a key and a place have one answer, and so has any other set of operations.
+/// A content, a key and an address have one answer, and so has any other set of operations.
 pub fn one_answer()
     ensures some { (o : Operations) (key : SliceKey) (asked : Where)
         → (answer : AnswerRecord) × IsAnswer o key asked answer }
@@ -364,7 +362,7 @@ pub fn one_answer()
     one_nearest();
 }
 
-/// A part of a content has the records of it that are picked, and is a content.
+/// A part of a content has the selected records, and is a content.
 pub fn parts_in_words()
     ensures part { (o : Operations) (picks : List ℕ → Bool) (r : List ℕ)
         → set.contains (part o picks) r ≡ (set.contains o r && picks r) }
@@ -374,8 +372,8 @@ pub fn parts_in_words()
         → AreAlikeUnder front (part o picks) o }
 {}
 
-/// The answer for a key, the rows of a UUID and those of a name depend on the records of that key, that UUID and that
-/// name alone: contents that are alike in these answer alike.
+/// The answer for a key, the rows of a UUID and those of a name depend only on the records of that key, that UUID and
+/// that name: contents with the same such records have the same answers.
 pub fn answers_of_few_records()
     ensures answer { (o p : Operations) (key : SliceKey) (asked : Where) (answer : AnswerRecord)
         → AreAlikeUnder (key_bytes key) o p
@@ -391,8 +389,8 @@ pub fn answers_of_few_records()
         → IsNames o name rows ↔ IsNames p name rows }
 {}
 
-/// What the part of a content that has all records under a key, or under a UUID, tells of it is what the whole content
-/// tells.
+/// If a part of a content has all records under a key, or under a UUID, its answers for it are those of the whole
+/// content.
 pub fn part_answers_as_the_whole()
     ensures answer { (o : Operations) (picks : List ℕ → Bool) (key : SliceKey) (asked : Where) (answer : AnswerRecord)
         → ((r : List ℕ) → is_under (key_bytes key) r ≡ true → picks r ≡ true)

@@ -1,4 +1,4 @@
-//! The headline of this repository, whole: one law over the definitions alone.
+//! The headline of this repository as one law over the definitions alone.
 ghost use Rattle.std.specs.Prelude.{◌≡◌, ◌↔◌, ◌≤◌, ℕ, List, [], ◌∷◌, true, length};
 ghost use Rattle.std.specs.declared.option.Option.{Option};
 ghost use Rattle.std.specs.FinSet as set;
@@ -26,33 +26,32 @@ use archive_exchange::model_laws::{
 /// merges, write out the same bytes and answer every lookup alike: the nearest symbol as defined, a conflict or none;
 /// and merge is associative, commutative and idempotent, giving the least archive above both.
 ///
-/// A clause is a phrase of that. What a site holds after a list of events is
-/// `(state sites events (length events)).held`, and `run` of `archive_exchange` proves that the program's sites hold it
-/// (`state`), so that its clause `same_operations_same_bytes` says the first half of them. That a site writes the bytes
-/// which `IsArchiveTextOf` names, that an archive's `lookup` gives an answer for which `IsAnswer` holds, and that a
-/// merge makes `joined`, are the contracts of `write_archive`, of `Archive::lookup`, and of `take_all`, `Site::deliver`
-/// and the command `merge`.
+/// Each clause is a phrase of that. The content of a site after a list of events is `(state sites events (length
+/// events)).held`, and `run` of `archive_exchange` proves that the program's sites have it (`state`), so its clause
+/// `same_operations_same_bytes` is the first half for them. The contracts of `write_archive`, of `Archive::lookup`, and
+/// of `take_all`, `Site::deliver` and the command `merge` state that a site writes the bytes of `IsArchiveTextOf`, that
+/// an archive's `lookup` returns an answer for which `IsAnswer` holds, and that a merge makes `joined`.
 pub fn headline<F>()
-    // After any list of events: the operations that a site took are those that an accepted event before the end gave
-    // it, a file, a retirement or a message, and that no stop took from it since.
+    // After any list of events, a site took exactly the operations that an accepted event before the end brought to it
+    // (a file, a retirement or a message), and that no stop has removed since.
     ensures took { (sites : ℕ) (events : List (Event F)) (i : ℕ) (r : List ℕ)
         → (set.contains (reached sites events i) r ≡ true)
         ↔ Reaches sites events (had sites events) r i (length events) }
 
-    // Sites that the same operations reached, in one run or in two, took the same. Those took the same, too, of which a
-    // slice reached the one alone that is retired at both.
+    // Sites that the same operations reached, in one run or in two, took the same. Sites also took the same if a slice
+    // reached only one of them but is retired at both.
     ensures same_operations { (sites others : ℕ) (events later : List (Event F)) (i j : ℕ)
         → ((r : List ℕ)
         → (set.contains (reached sites events i) r ≡ true) ↔ (set.contains (reached others later j) r ≡ true))
         → TookTheSame sites events i others later j }
 
-    // Sites that took the same operations, in one run or in two, hold the same content.
+    // Sites that took the same operations, in one run or in two, have the same content.
     ensures same_content { (sites others : ℕ) (events later : List (Event F)) (i j : ℕ)
         → TookTheSame sites events i others later j
         → (state sites events (length events)).held i ≡ (state others later (length later)).held j }
 
-    // They write out the same bytes: a content has a text, and one only. What a run's events issue are records, as the
-    // clause `records` of `run` says.
+    // They write the same bytes: a content has exactly one text. The events of a run issue records: see the clause
+    // `records` of `run`.
     ensures same_bytes { (sites others : ℕ) (events later : List (Event F)) (i j : ℕ)
         → TookTheSame sites events i others later j
         → AreRecords sites events
@@ -62,7 +61,7 @@ pub fn headline<F>()
     ensures one_text { (o : Operations) (text other : List ℕ) → IsArchiveTextOf text o → IsArchiveTextOf other o
         → text ≡ other }
 
-    // And answer every lookup alike: a lookup has one answer.
+    // They answer every lookup alike: a lookup has one answer.
     ensures same_answers { (sites others : ℕ) (events later : List (Event F)) (i j : ℕ)
         → TookTheSame sites events i others later j
         → (key : SliceKey) (asked : Where) (answer : AnswerRecord)
@@ -75,8 +74,8 @@ pub fn headline<F>()
         → IsAnswer o key asked other
         → answer ≡ other }
 
-    // The nearest symbol as defined, or that there is none, where one slice answers; each slice's own, where several
-    // do; none, where none does.
+    // If one slice answers: the nearest symbol as defined, or none; if several do: the answer of each slice; if none
+    // does: no answer.
     ensures nearest { (o : Operations) (key : SliceKey) (asked : Where) (own : Option FoundRecord)
         → IsAnswer o key asked (Alone own)
         ↔ ((slice : List ℕ) × AreAnswering o key (slice ∷ []) × IsOwn slice asked own) }

@@ -1,5 +1,5 @@
-//! What a crash leaves at the path of an output, whatever call it is stopped after. Each law speaks of the calls that
-//! a command makes for its output.
+//! The possible contents of an output's path after a crash that follows any call. Each law is about the calls that a
+//! command makes for its output.
 ghost use Rattle.std.specs.Prelude.{◌≡◌, ◌⊎◌, ℕ, Contains, List, Option, Some, [], false, take};
 ghost use Rattle.cli_files.specs.FileCalls.{Begins, Compares, FileCall, Finds, FindsNothing, Leads};
 ghost use Rattle.cli_files.specs.declared.found.Found.{Found};
@@ -10,9 +10,8 @@ ghost use Rattle.cli_files.specs.declared.replaceable.ReplaceRule.TheVariants.{S
 ghost use Rattle.laws_archive.specs.Crashes.{MayBeAt, replay};
 ghost use Rattle.archive_records.specs.declared.kind.TextKind.TheVariants.{Archive};
 
-/// A text is put in the place of what OUT's path leads to: a crash after any of the calls leaves what was there, or
-/// the whole text; and after the last one the text. That place is the path itself, or the system said that the path
-/// leads there.
+/// A text replaces the target of OUT's path: a crash after any of the calls leaves the earlier file, or the whole text;
+/// and after the last call the text. The target is the path itself, or the path to which the system resolved it.
 pub fn whole_or_as_before()
     ensures any_moment { (path text : List ℕ) (replaces : ReplaceRule) (calls : List FileCall)
         (before left : Option (List ℕ)) (done : ℕ) (is : IsReplaced path replaces text calls)
@@ -27,16 +26,16 @@ pub fn whole_or_as_before()
         → (is.target ≡ path) ⊎ Contains calls (Leads path is.target) }
 {}
 
-/// A draft is removed: a crash after any of the calls leaves what was at the place of OUT's path.
+/// A draft is removed: a crash after any of the calls leaves the earlier file at the target of OUT's path.
 pub fn removed_leaves_it()
-    ensures { (replaces : ReplaceRule) (path : List ℕ) (calls : List FileCall) (before left : Option (List ℕ)) (done : ℕ)
-        (is : IsDraftRemoved replaces path calls)
+    ensures { (replaces : ReplaceRule) (path : List ℕ) (calls : List FileCall) (before left : Option (List ℕ))
+        (done : ℕ) (is : IsDraftRemoved replaces path calls)
         → MayBeAt before (replay is.target (take done calls)) left
         → left ≡ before }
 {}
 
-/// A regular file is not written to: bytes that go to no draft go to what the system said is none, or to a descriptor;
-/// and to a descriptor they go, and to no draft.
+/// A regular file is not written through: bytes that are not written to a draft are written to a file that the system
+/// reported as not regular, or to a descriptor; and for a descriptor there is no draft.
 pub fn never_written_through()
     ensures others { (path text : List ℕ) (calls : List FileCall) (is : IsWrittenThrough path text calls)
         → ((found : Found) × (found.is_file ≡ false) × Contains calls (Finds path found)) ⊎ IsDescriptor path }
@@ -44,9 +43,9 @@ pub fn never_written_through()
         → IsReplaced path replaces text calls → IsDescriptor path → ⊥ }
 {}
 
-/// What is at the place of OUT's path gives way, whatever the command: what begins as an archive to an archive that has
-/// or covers each of its records; and a file of another kind than the draft to none, but to a slice that it is. A file
-/// counts as empty only if the system said that it has no byte.
+/// The target of OUT's path is replaced by any command only so: a file with the first bytes of an archive by an archive
+/// that has or covers each of its records; a file of another kind than the draft never, except by a slice with the same
+/// bytes. A file counts as empty only if the system reported that it has no bytes.
 pub fn archives_give_way_to_those_above()
     ensures archives { (path text bytes : List ℕ) (replaces : ReplaceRule) (calls : List FileCall)
         (is : IsReplaced path replaces text calls)

@@ -1,5 +1,5 @@
-//! What the definitions of the commands that write OUT say in the words of their user. Each law is the contract of a
-//! function that does nothing but call other laws.
+//! Laws of the commands that write OUT, in the words of their user. Each law is the contract of a function that only
+//! calls other laws.
 ghost use Rattle.std.specs.Prelude.{ℕ, List, ◌≡◌, ◌↔◌, ◌+◌, ◌++◌, Some, Contains, drop, map, take, slice_get, ◌≢◌, ◌∷◌};
 ghost use Rattle.std.specs.Prelude.{[], Ok, Err};
 ghost use Rattle.std.specs.List.{AllByRecursion, AllZip};
@@ -47,8 +47,8 @@ use crate::text_laws::{one_list_of_operations, one_summary, stopped_merge_of_tex
 use archive_admission::laws::one_take_fault;
 use byte_device::{Sink, Source, Target};
 
-/// Where archives of one content, of whichever version, and files of the same bytes are given, a command makes one OUT
-/// and one report of them, wherever they come from.
+/// For archives with one content, of either version, and files with the same bytes, a command makes one OUT and one
+/// report, wherever its inputs are stored.
 pub fn one_outcome<Q: Source, R: Source, S: Source, T: Source>()
     ensures admit { (input : Reader Q) (other : Reader R) (files : List (Reader S)) (others : List (Reader T))
         (o : Operations) (texts : List (List ℕ))
@@ -103,8 +103,8 @@ pub fn one_outcome<Q: Source, R: Source, S: Source, T: Source>()
     one_summary();
 }
 
-/// Where the archives are the texts of contents, the FILEs of `admit` accepted, OPS the text of operations and SUMMARY
-/// that of entries, no input is refused but for its device.
+/// If the archives are the texts of contents, the FILEs of `admit` are accepted, OPS is the text of operations and
+/// SUMMARY that of entries, inputs are refused only for their devices.
 pub fn accepted_inputs_are_not_refused<R: Source, S: Source>()
     ensures admit { (input : Reader R) (files : List (Reader S)) (o : Operations) (texts : List (List ℕ))
         → IsContent o
@@ -138,8 +138,8 @@ pub fn accepted_inputs_are_not_refused<R: Source, S: Source>()
     one_take_fault();
 }
 
-/// What `admit` makes that passes over files, with the status that all was done, is what it makes that is refused for
-/// one, and the other way round, where no reader of a file fails.
+/// `admit` that passes over files, with the status that all was done, makes the same as `admit` that fails for a
+/// refused file, and conversely if no reader of a file fails.
 pub fn none_passed_over<R: Source, S: Source>()
     ensures done { (opening : S → Opening) (input : Reader R) (files : List (Reader S)) (o : Operations)
         (lines : List ℕ)
@@ -152,8 +152,8 @@ pub fn none_passed_over<R: Source, S: Source>()
         → MakesPassing opening input files Done o lines }
 {}
 
-/// The content that `admit` makes is IN's with the admissions of the files' images, in whatever order and however often
-/// the files are on the command line.
+/// The content that `admit` makes is IN's with the admissions of the files' images, for any order and repeats of the
+/// files on the command line.
 pub fn admitted_in_any_order()
     ensures content { (o : Operations) (files : List (List ℕ)) → IsMade o
         → admitted o (images_of files)
@@ -163,8 +163,8 @@ pub fn admitted_in_any_order()
         → admitted o (images_of files) ≡ admitted o (images_of others) }
 {}
 
-/// The rows of a file stand after those of the files before it, and say what became of its slices over IN with the
-/// images of these.
+/// The rows of a file follow those of the earlier files, and state the outcome of its slices over IN with the images of
+/// these.
 pub fn rows_in_order()
     ensures { (o : Operations) (files : List (List ℕ)) (index : ℕ) (file : List ℕ) → slice_get files index ≡ Some file
         → admit_rows o 0 files ≡ admit_rows o 0 (take index files)
@@ -172,7 +172,7 @@ pub fn rows_in_order()
         ++ admit_rows (admitted o (images_of (take (index + 1) files))) (index + 1) (drop (index + 1) files)) }
 {}
 
-/// What `merge` makes is the least content above IN and above each FILE: it holds what they hold, and nothing else.
+/// `merge` makes the least content above IN and above each FILE: it has their records, and no others.
 pub fn merged_is_least()
     ensures content { (o : Operations) (contents : List Operations) → IsContent o → AllByRecursion IsContent contents
         → IsContent (merged o contents) }
@@ -187,8 +187,8 @@ pub fn merged_is_least()
         → IsBelow (merged o contents) q }
 {}
 
-/// What `merge` makes does not rest on the order of the FILEs, on one that is named twice, on which of the archives is
-/// IN, nor on FILEs that were merged among themselves before: it is what the operations of all of them make.
+/// The content that `merge` makes does not depend on the order of the FILEs, on repeated FILEs, on which of the
+/// archives is IN, or on earlier merges among the FILEs: it is the content of all their operations.
 pub fn merged_in_any_order()
     ensures order { (o : Operations) (contents others : List Operations) → IsContent o
         → AllByRecursion IsContent contents → AllByRecursion IsContent others
@@ -205,7 +205,7 @@ pub fn merged_in_any_order()
     contents_join();
 }
 
-/// With one FILE `merge` writes and reports the same, where it is not stopped, as if it had read both archives first.
+/// If `merge` with one FILE is not stopped, it writes and reports the same as if it had read both archives first.
 pub fn both_ways_write_the_same<R: Source, S: Source, D: Sink, T: Target>()
     ensures done { (input : Reader R) (file : Reader S) (out : Outs D T) (report : Writer) (status : Status)
         → EndsStreamed (merge_of_one input file (draft_of out)) (out_of out) report (Ok status)
@@ -215,7 +215,7 @@ pub fn both_ways_write_the_same<R: Source, S: Source, D: Sink, T: Target>()
         → Ends (merge input (file ∷ [])) (out_of out) report (Err (Report n)) }
 {}
 
-/// With one FILE, too, nothing is in place if an input is refused, OUT fails or memory runs out.
+/// With one FILE, too, nothing is published if an input is refused, OUT fails or memory runs out.
 pub fn merge_of_one_keeps_out<R: Source, S: Source, D: Sink, T: Target>()
     ensures { (input : Reader R) (file : Reader S) (out : Outs D T) (report : Writer) (fault : CommandFault)
         → ((n : ℕ) → fault ≢ Report n)
@@ -223,9 +223,9 @@ pub fn merge_of_one_keeps_out<R: Source, S: Source, D: Sink, T: Target>()
         → out.published out.new.target ≡ out.published out.old.target }
 {}
 
-/// A command that is stopped before its text is whole leaves OUT as it was, also if OUT was begun: an input that is
-/// refused (`Err (Input ..)` of `EndsStreamed`) is such a stop. A pipe, like a draft, has a beginning of the text then:
-/// of what the command makes of an archive with the good records of its first input.
+/// A command that is stopped before its text is complete leaves OUT unchanged, even if OUT was begun; a refused input
+/// (`Err (Input ..)` of `EndsStreamed`) stops it, too. A pipe, like a draft, then has a beginning of the text that the
+/// command makes from an archive with the good records of its first input.
 pub fn stopped_commands_keep_out<R: Source, S: Source, D: Sink, T: Target>()
     ensures admit { (input : Reader R) (files : List (Reader S)) (out : Out) (report : Writer)
         → LeavesBeginningIfStopped (admit_as_it_comes input files out.draft) (λ given. admit given files) input
@@ -239,7 +239,7 @@ pub fn stopped_commands_keep_out<R: Source, S: Source, D: Sink, T: Target>()
     ensures merge { (input : Reader R) (files : List (Reader S)) (out : Outs D T) (report : Writer)
         → LeavesBeginningIfStopped (merge_as_it_comes input files out) (λ given. merge given files) input
         (EachKnown files) (out_of out) report }
-    // With one FILE there is such a text of whatever bytes both have, of their good records.
+    // With one FILE there is such a text for any bytes of both inputs, from their good records.
     ensures faulty { (input : Reader R) (file : Reader S) (out : Outs D T) (report : Writer) (fault : CommandFault)
         (text other : List ℕ) (records others : List (List ℕ))
         → IsStopped (merge_of_one input file (draft_of out)) (out_of out) report fault
@@ -261,7 +261,7 @@ pub fn stopped_commands_keep_out<R: Source, S: Source, D: Sink, T: Target>()
     stopped_merge_of_texts::<R, S, D>();
 }
 
-/// Where IN and the one FILE are the texts of contents, neither is refused but for its device.
+/// If IN and the one FILE are the texts of contents, they are refused only for their devices.
 pub fn two_accepted_archives_are_not_refused<R: Source, S: Source, D: Sink, T: Target>()
     ensures { (input : Reader R) (file : Reader S) (out : Outs D T) (report : Writer) (o p : Operations)
         (name : InputName) (why : Why)
@@ -273,8 +273,8 @@ pub fn two_accepted_archives_are_not_refused<R: Source, S: Source, D: Sink, T: T
         → IsDeviceFault why }
 {}
 
-/// What version 1 wrote of operations becomes the content that they make, and what version 2 wrote of a content stays
-/// that content, so that OUT has the bytes of IN.
+/// A text of version 1 becomes the content of its operations, and a text of version 2 keeps its content, so OUT has the
+/// bytes of IN.
 pub fn migrated<R: Source>()
     ensures old { (input : Reader R) (p content : Operations) (lines : List ℕ) → AreOperations p
         → IsGiven input (old_written p) → MakesMigrated input content lines → content ≡ content_of p }
@@ -282,8 +282,8 @@ pub fn migrated<R: Source>()
         → IsGiven input (written o) → MakesMigrated input content lines → content ≡ o }
 {}
 
-/// A merge makes the same of what version 1 wrote of two sets of operations as of what `migrate` makes of either, or of
-/// both: the content that all these operations make. So it does not matter which is done first.
+/// A merge of the texts of version 1 for two sets of operations makes the same as a merge after `migrate` of one or
+/// both: the content of all these operations. So the order of the two commands does not matter.
 pub fn migrated_before_or_after<R: Source, S: Source>()
     ensures merged { (input : Reader R) (file : Reader S) (p q content : Operations) (lines : List ℕ) → AreOperations p
         → AreOperations q → IsGiven input (old_written p) → IsGiven file (old_written q)
@@ -301,8 +301,8 @@ pub fn migrated_before_or_after<R: Source, S: Source>()
     migrate_joins();
 }
 
-/// The content that `apply` makes is IN's with what the operations make, in whatever order and however often they
-/// stand in the file; so two files with the same operations leave one text in OUT.
+/// The content that `apply` makes is IN's joined with that of the operations, for any order and repeats of them in the
+/// file; so two files with the same operations make one text in OUT.
 pub fn applied_in_any_order()
     ensures content { (o : Operations) (operations : List Operation) → IsMade o
         → with_records o (map record_bytes operations)
@@ -317,13 +317,13 @@ pub fn applied_in_any_order()
     takes_in_any_order();
 }
 
-/// `new` has no input, and is refused for none: where it fails OUT or the report did, or memory ran out.
+/// `new` has no input, and is never refused for one: if it fails, OUT or the report failed, or memory ran out.
 pub fn refused_for_no_input()
     ensures { (out : Out) (report : Writer) (name : InputName) (why : Why)
         → ¬ Publishes out report (written set.empty) (report_of set.empty []) (Err (Input name why)) }
 {}
 
-/// What it writes is the least archive: it has nothing, and merged with another one, before it or after it, gives that.
+/// `new` writes the least archive: it has no records, and its merge with another one, on either side, is the other one.
 pub fn least_archive()
     ensures content { IsContent set.empty }
     ensures least { (o : Operations) → IsBelow set.empty o }

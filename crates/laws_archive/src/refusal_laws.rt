@@ -1,4 +1,4 @@
-//! What two calls tell whose inputs hold the same. Each law is the contract of a function that does nothing but call
+//! The results of two calls whose inputs have the same bytes. Each law is the contract of a function that only calls
 //! other laws.
 ghost use Rattle.std.specs.Prelude.{ℕ, Bool, List, Option};
 ghost use Rattle.archive_core.specs.declared.keys.Digest.{Digest};
@@ -25,8 +25,8 @@ use archive_exchange::laws::one_meaning;
 use byte_device::Source;
 use dwarf_source_frames::laws::one_list_of_frames;
 
-/// Two calls of a command that writes OUT, whose inputs hold the same, refuse one of them, for one reason, unless for a
-/// device. Of `merge` with one FILE, which refuses whichever text stops it first, `one_side_stops` says so.
+/// Two calls of a command that writes OUT, whose inputs have the same bytes, refuse the same input for the same reason,
+/// unless for a device. `merge` with one FILE refuses the text that stops it first; its law is `one_side_stops`.
 pub fn one_refusal<Q: Source, R: Source, S: Source, T: Source>()
     ensures admit { (input : Reader Q) (other : Reader R) (files : List (Reader S)) (others : List (Reader T))
         → HoldAlike input other
@@ -57,8 +57,8 @@ pub fn one_refusal<Q: Source, R: Source, S: Source, T: Source>()
     one_take_fault();
 }
 
-/// Two calls of a command that only reports, whose inputs hold the same, end alike unless the machine ends one: they
-/// have one status and report one text, or refuse one input, for one reason.
+/// Two calls of a command that only reports, whose inputs have the same bytes, have the same result unless the machine
+/// ends one: they have one status and report one text, or refuse the same input for the same reason.
 pub fn same_inputs_end_alike<O: Source, P: Source, Q: Source, R: Source, S: Source, T: Source>()
     ensures find { (archive : Reader Q) (others : List (Reader R)) (also : Reader S) (more : List (Reader T))
         (uuid : List ℕ)

@@ -1,5 +1,5 @@
-//! What the definitions of the commands that only report say in the words of their user. Each law is the contract of a
-//! function that does nothing but call other laws.
+//! Laws of the commands that only report, in the words of their user. Each law is the contract of a function that only
+//! calls other laws.
 ghost use Rattle.std.specs.Prelude.{◌≡◌, ◌≤◌, ◌↔◌, ℕ, List, [], Bool, true, false, Ok, Option, length, map};
 ghost use Rattle.std.specs.List.{AllByRecursion, flat_map};
 ghost use Rattle.archive_core.specs.Content.{IsContent, Operations, joined, content_of};
@@ -35,8 +35,8 @@ use archive_exchange::model_laws::same_operations_same_content;
 use byte_device::Source;
 use dwarf_source_frames::laws::one_list_of_frames;
 
-/// Where the archives are the texts of contents, FRAMES says frames and SCRIPT a script, whatever its events are, no
-/// input is refused but for its device.
+/// If the archives are the texts of contents, FRAMES is a text of frames and SCRIPT a script, with any events, inputs
+/// are refused only for their devices.
 pub fn accepted_inputs_are_not_refused<Q: Source, R: Source, S: Source>()
     ensures find { (archive : Reader R) (others : List (Reader S)) (o : Operations) (uuid : List ℕ)
         → IsGivenJoin archive others o
@@ -61,8 +61,8 @@ pub fn accepted_inputs_are_not_refused<Q: Source, R: Source, S: Source>()
         → AreDevicesAlone (rehearse script).Refuses }
 {}
 
-/// A content tells one status and one text of a UUID, of a name and of addresses, with the lines of the slices that
-/// answer and without, whatever archive keeps it.
+/// A content has one status and one text for a UUID, for a name and for addresses, with and without the lines of the
+/// slices that answer, in any type of archive.
 pub fn one_telling()
     ensures find { (o : Operations) (uuid : List ℕ) → TellOne (TellsFound o uuid) (TellsFound o uuid) }
     ensures name { (o : Operations) (sought : List ℕ) → TellOne (TellsNamed o sought) (TellsNamed o sought) }
@@ -76,8 +76,8 @@ pub fn one_telling()
     one_list_of_frames();
 }
 
-/// Two calls whose archives hold one content together, and whose FRAMES or SCRIPT hold the same bytes, give the same
-/// status and the same report, however many archives there are.
+/// Two calls whose archives have one joint content, and whose FRAMES or SCRIPT have the same bytes, have the same
+/// status and the same report, for any number of archives.
 pub fn one_report<Q: Source, R: Source, S: Source, T: Source, U: Source, V: Source>()
     ensures find { (archive : Reader R) (others : List (Reader S)) (also : Reader T) (more : List (Reader U))
         (o : Operations) (uuid : List ℕ)
@@ -119,8 +119,7 @@ pub fn one_report<Q: Source, R: Source, S: Source, T: Source, U: Source, V: Sour
     one_telling();
 }
 
-/// What is told of several archives is what is told of the one archive that `merge` of them writes, with the same
-/// status.
+/// The status and the report for several archives are those for the one archive that `merge` of them writes.
 pub fn asked_together<Q: Source, R: Source, S: Source, T: Source>()
     ensures find { (archive : Reader R) (others : List (Reader S)) (file : Reader T) (uuid : List ℕ)
         → IsMergedFile archive others file
@@ -140,7 +139,7 @@ pub fn asked_together<Q: Source, R: Source, S: Source, T: Source>()
         (frames {T = S} lines slices input file []).Makes }
 {}
 
-/// What is told of one archive is what its content tells.
+/// The status and the report for one archive are those of its content.
 pub fn one_archive<Q: Source, R: Source, S: Source>()
     ensures find { (archive : Reader R) (uuid : List ℕ)
         → TellAlike (find {S = S} archive [] uuid).Makes
@@ -158,15 +157,15 @@ pub fn one_archive<Q: Source, R: Source, S: Source>()
         × HoldsContent archive (λ o. TellsFramesWith lines slices o listed status text)) }
 {}
 
-/// One archive is refused, or its reader does not fail, as where there is no list of others.
+/// One archive is refused, or its reader does not fail, exactly as with an empty list of others.
 pub fn no_others<R: Source, S: Source>()
     ensures refused { (archive : Reader R) (at : InputName) (why : Why)
         → AreRefused {S = S} archive [] at why ↔ IsRefusedArchive 0 archive at why }
     ensures unfailed { (archive : Reader R) → AreUnfailed {S = S} archive [] ↔ Unfailed archive }
 {}
 
-/// Under a prefix of a key, or the whole of it, the join of parts has what the join of the contents has, where the
-/// parts have all records under it.
+/// Under a key, or a prefix of a key, the join of parts has the records that the join of the contents has, if the parts
+/// have all records under it.
 pub fn joins_of_parts()
     ensures two { (o p : Operations) (picks : List ℕ → Bool) (prefix : List ℕ)
         → IsContent o
@@ -182,7 +181,7 @@ pub fn joins_of_parts()
         → AreAlikeUnder prefix (merged (part o picks) (map (λ p. part p picks) contents)) (merged o contents) }
 {}
 
-/// Without lines `symbolicate` tells the same answers, with the same status and none of their frames.
+/// Without lines `symbolicate` has the same answers, with the same status, and no frames.
 pub fn told_without_lines()
     ensures { (content : Operations) (key : SliceKey) (load : Option ℕ) (addresses : List ℕ) (status : Status)
         (text : List ℕ)
@@ -191,9 +190,9 @@ pub fn told_without_lines()
         (flat_map (λ row. answer_lines row.address row.answer []) told.rows) }
 {}
 
-/// The lines of a frame are those of `symbolicate` for it: `frames`, not asked for the lines of slices, ends so and
-/// writes this text if and only if these are the status and the text of `symbolicate` over the same archives, asked
-/// once for each frame of FRAMES.
+/// The lines of a frame are those of `symbolicate` for it: `frames`, without the lines of slices, has this status and
+/// this text if and only if they are the status and the text of `symbolicate` over the same archives, called once for
+/// each frame of FRAMES.
 pub fn each_is_symbolicated<R: Source, S: Source, T: Source>()
     ensures { (lines : Bool) (input : Reader R) (archive : Reader S) (others : List (Reader T)) (bytes : List ℕ)
         (listed : List Frame) (o : Operations)
@@ -203,8 +202,8 @@ pub fn each_is_symbolicated<R: Source, S: Source, T: Source>()
         → TellAlike (frames lines false input archive others).Makes (SymbolicatesEach lines archive others listed) }
 {}
 
-/// Sites that the same operations reached, in one rehearsal or in two, have lines that are the same after their
-/// numbers: as many records and bytes, and one digest.
+/// For sites that the same operations reached, in one rehearsal or in two, the lines are the same after their numbers:
+/// they have the same numbers of records and bytes, and one digest.
 pub fn same_operations_same_line()
     ensures { (sites others : ℕ) (seen later : List ModelEvent) (i j number : ℕ)
         → content_of (reached sites seen i) ≡ content_of (reached others later j)

@@ -1,7 +1,7 @@
-//! What commands reach that are called one after another, in any order and number, each with archives that earlier ones
-//! wrote. Each law is the contract of a function that does nothing but call other laws.
+//! The results of commands that are called one after another, in any order and number, each with archives that earlier
+//! ones wrote. Each law is the contract of a function that only calls other laws.
 //!
-//! The definition is by cases, one for each command, over what the command makes by its own definition.
+//! The definition is by cases, one for each command, over the text that the command makes by its own definition.
 ghost use Rattle.std.specs.Prelude.{◌≡◌, ◌↔◌, ℕ, Bool, List, [], ◌∷◌, Ok, Option, false, length, true};
 ghost use Rattle.std.specs.FinSet as set;
 ghost use Rattle.join_core.specs.Bound.{IsLeastAbove};
@@ -40,9 +40,9 @@ use archive_admission::laws::one_take_fault;
 use archive_exchange::model_laws::reached_is_held;
 use byte_device::{Sink, Source, Target};
 
-/// Whatever commands were called, in whatever order and however often, and whatever they merged: OUT is the one text of
-/// the content that its operations make. So OUTs of the same operations have the same bytes, and so do those alone whose
-/// operations make the same content.
+/// For any commands, in any order and with any repeats and merges, OUT is the one text of the content of its
+/// operations. So OUTs of the same operations have the same bytes; OUTs have the same bytes exactly if their operations
+/// make the same content.
 pub fn any_sequence_of_commands<R: Source>()
     ensures text { (text : List ℕ) (o : Operations) → IsOutOf R text o → IsArchiveTextOf text (content_of o) }
     ensures same_operations { (text other : List ℕ) (o p : Operations)
@@ -55,7 +55,7 @@ pub fn any_sequence_of_commands<R: Source>()
         → IsOutOf R other p
         → (text ≡ other) ↔ (content_of o ≡ content_of p) }
 
-    // What a command reads, the OUT of one or a text of version 1, gives that content, too.
+    // An archive that a command reads, the OUT of a command or a text of version 1, has that content, too.
     ensures input { (input : Reader R) (o : Operations) → IsInputOf R input o
         → IsContent (content_of o) × IsGivenArchive input (content_of o) }
     ensures inputs { (input : Reader R) (inputs : List (Reader R)) (o : Operations)
@@ -76,7 +76,7 @@ pub fn any_sequence_of_commands<R: Source>()
     one_take_fault();
 }
 
-/// A call that ends well leaves at OUT a text that the definition has as its command's.
+/// A call that succeeds leaves at OUT a text that the definition has for its command.
 pub fn calls_write_outs<R: Source, D: Sink, T: Target>()
     ensures new { (out : Out) (report : Writer) (status : Status) (text : List ℕ)
         → HasAtOut out text
@@ -116,13 +116,13 @@ pub fn calls_write_outs<R: Source, D: Sink, T: Target>()
         → Writes (delta archive summary) text }
 {}
 
-/// Of whatever operations, `new` and `apply` make such an OUT.
+/// `new` and `apply` make such an OUT from any operations.
 pub fn each_set_has_an_out()
     ensures { (o : Operations) → AreOperations o → IsOutOf (List ℕ) (written (content_of o)) o }
 {}
 
 /// OUTs of commands, and texts of version 1, whose operations make one content answer alike, one archive or several
-/// asked together: the status is one, and the report.
+/// read together: they have one status, and one report.
 pub fn any_sequence_answers_alike<R: Source>()
     ensures find { (archive also : Reader R) (others more : List (Reader R)) (o p : Operations) (uuid : List ℕ)
         → AreInputsOf R (archive ∷ others) o
@@ -159,8 +159,8 @@ pub fn any_sequence_answers_alike<R: Source>()
     one_report::<R, R, R, R, R, R>();
 }
 
-/// An OUT of commands is the text of what a site holds, after any list of events, if the operations that it is made of
-/// make the same content as those that reached the site.
+/// An OUT of commands is the text of a site's content, after any list of events, if its operations make the same
+/// content as those that reached the site.
 pub fn sites_as_commands<F, R: Source>()
     ensures { (sites : ℕ) (events : List (Event F)) (i : ℕ) (text : List ℕ) (o : Operations)
         → IsOutOf R text o

@@ -1,4 +1,4 @@
-//! What the definitions say of each other. Each law is a function with an empty body, and its contract the law.
+//! Laws that relate the definitions of texts. Each law is a function with an empty body, and its contract the law.
 
 ghost use Rattle.std.specs.Prelude.{◌≡◌, ◌≢◌, ◌+◌, ◌<◌, ◌≤◌, ◌^◌, ◌++◌, ◌↔◌, ◌⊎◌, ℕ, List};
 ghost use Rattle.std.specs.Prelude.{[], length, take, slice_index, Some, Err, Contains, true};
@@ -34,18 +34,18 @@ ghost use Rattle.byte_device.specs.Devices.{Stream};
 
 use byte_device::{Sink, Source};
 
-/// A content is written in exactly one text: the one that `written` gives.
+/// A content has exactly one written text: that of `written`.
 pub fn written_is_the_one_text()
     ensures { (o : Operations) (text : List ℕ) → IsWritten o text ↔ (text ≡ written o) }
 {}
 
-/// A text gives one content only.
+/// A text has at most one content.
 pub fn one_content()
     ensures { (text : List ℕ) (o p : Operations) → IsContent o → IsContent p → IsArchiveOf o text → IsArchiveOf p text
         → o ≡ p }
 {}
 
-/// No text of an archive, of whichever version, begins another one.
+/// No text of an archive, of either version, is the beginning of another one.
 pub fn no_text_begins_another()
     ensures { (o p : Operations) (text other more : List ℕ) → IsContent o → IsContent p → IsArchiveOf o text
         → IsArchiveOf p other → text ++ more ≡ other → more ≡ [] }
@@ -57,13 +57,13 @@ pub fn content_or_fault()
         → ((o : Operations) × IsContent o × IsArchiveOf o text) ⊎ ((fault : RecordFault) × IsFault text fault) }
 {}
 
-/// A text has one fault at most.
+/// A text has at most one fault.
 pub fn one_fault()
     ensures { (text : List ℕ) (f g : RecordFault) → IsFault text f → IsFault text g → f ≡ g }
 {}
 
-/// The text that is written of a content has no fault, and none that version 1 wrote of operations has one. A number of
-/// records of 2^64 or more would not fit the end record.
+/// The written text of a content has no fault, nor has a text of version 1 for operations. A number of records of 2^64
+/// or more would not fit the end record.
 pub fn text_has_no_fault()
     ensures written { (o : Operations) (fault : RecordFault) → IsContent o → set.len o < 2 ^ 64
         → IsFault (written o) fault → ⊥ }
@@ -71,8 +71,8 @@ pub fn text_has_no_fault()
         → IsFault (old_written p) fault → ⊥ }
 {}
 
-/// Fewer bytes than a magic has are cut off where both magics of archives begin so; and first bytes that begin neither
-/// of them are no archive's.
+/// Fewer bytes than a magic has are truncated if both magics of archives begin with them; and first bytes with which
+/// neither magic begins are those of no archive.
 pub fn magics_in_words()
     ensures truncated { (text : List ℕ) → IsFault text (record { kind = Truncated; offset = 0 })
         ↔ ((length text < 8) × (text ≡ take (length text) magic) × (text ≡ take (length text) old_magic)) }
@@ -80,13 +80,13 @@ pub fn magics_in_words()
         ↔ ((n : ℕ) × (n ≤ 8) × (n ≤ length text) × (take n text ≢ take n magic) × (take n text ≢ take n old_magic)) }
 {}
 
-/// What version 1 wrote of a content gives this content.
+/// The text of version 1 for a content has this content.
 pub fn old_text_of_a_content()
     ensures { (o : Operations) → IsContent o → IsArchiveOf o (old_written o) }
 {}
 
-/// After the magic a fault stands at the end of the longest good front, and bytes too many after the end record
-/// there.
+/// After the magic, a fault is at the end of the longest good front; for surplus bytes, it is at the end of the end
+/// record there.
 pub fn longest_front()
     ensures { (file : Format) (text : List ℕ) (fault : RecordFault) → IsFaultOf file text fault
         → IsMagicFault file text fault.kind
@@ -95,57 +95,57 @@ pub fn longest_front()
         ⊎ ((fault.kind ≡ Trailing) × (fault.offset ≡ front_length records + 9)))) }
 {}
 
-/// The text of operations is that of one list only.
+/// A text is that of at most one list of operations.
 pub fn one_list_of_operations()
     ensures { (text : List ℕ) (a b : List Operation) → IsOperationsText text a → IsOperationsText text b → a ≡ b }
 {}
 
-/// Bytes are the text of operations, or have a fault as such.
+/// Bytes are the text of operations, or have a fault as such a text.
 pub fn operations_or_fault()
     ensures { (text : List ℕ) → ((i : ℕ) → slice_index text i < 256)
         → ((operations : List Operation) × IsOperationsText text operations)
         ⊎ ((fault : RecordFault) × IsOperationsFault text fault) }
 {}
 
-/// They have one fault at most.
+/// Bytes have at most one fault as the text of operations.
 pub fn one_fault_of_operations()
     ensures { (text : List ℕ) (f g : RecordFault) → IsOperationsFault text f → IsOperationsFault text g → f ≡ g }
 {}
 
-/// The text of operations has no fault, however many there are.
+/// The text of operations has no fault, for any number of them.
 pub fn operations_have_no_fault()
     ensures { (text : List ℕ) (operations : List Operation) (fault : RecordFault) → IsOperationsText text operations
         → IsOperationsFault text fault → ⊥ }
 {}
 
-/// An operations file has no order, no number of records and nothing after one.
+/// An operations file is not refused for its order, for a number of records, or for bytes after an end record.
 pub fn faults_of_operations()
     ensures { (text : List ℕ) (fault : RecordFault) → IsOperationsFault text fault
         → (fault.kind ≢ NotAscending) × (fault.kind ≢ BadCount) × (fault.kind ≢ Trailing) }
 {}
 
-/// A summary has exactly one text: the one that `summary_text` gives.
+/// A summary has exactly one text: that of `summary_text`.
 pub fn summary_text_is_the_one()
     ensures { (s : Entries) (text : List ℕ) → IsSummaryText s text ↔ (text ≡ summary_text s) }
 {}
 
-/// The entries of the operations of a content are those of a summary.
+/// The entries of the operations of a content are a summary.
 pub fn content_has_summary()
     ensures { (o : Operations) → IsContent o → AreEntries (summary o) }
 {}
 
-/// The text of a summary is that of one only.
+/// A text is that of at most one summary.
 pub fn one_summary()
     ensures { (s t : Entries) → AreEntries s → AreEntries t → summary_text s ≡ summary_text t → s ≡ t }
 {}
 
-/// Bytes are the text of a summary, or have a fault as such.
+/// Bytes are the text of a summary, or have a fault as such a text.
 pub fn summary_or_fault()
     ensures { (text : List ℕ) → ((i : ℕ) → slice_index text i < 256)
         → ((s : Entries) × AreEntries s × IsSummaryText s text) ⊎ ((fault : RecordFault) × IsSummaryFault text fault) }
 {}
 
-/// They have one fault at most.
+/// Bytes have at most one fault as the text of a summary.
 pub fn one_fault_of_summary()
     ensures { (text : List ℕ) (f g : RecordFault) → IsSummaryFault text f → IsSummaryFault text g → f ≡ g }
 {}
@@ -156,7 +156,7 @@ pub fn summary_has_no_fault()
         → IsSummaryFault (summary_text s) fault → ⊥ }
 {}
 
-/// A summary has no slices, so no fault of one.
+/// A summary has no slices, and so no fault of a slice.
 pub fn faults_of_summaries()
     ensures large { (text : List ℕ) (fault : RecordFault) → IsSummaryFault text fault → fault.kind ≢ TooLarge }
     ensures slice { (text : List ℕ) (fault : RecordFault) (why : SliceFault) → IsSummaryFault text fault
@@ -164,8 +164,8 @@ pub fn faults_of_summaries()
     ensures key { (text : List ℕ) (fault : RecordFault) → IsSummaryFault text fault → fault.kind ≢ KeyMismatch }
 {}
 
-/// In no other file than an archive's text a covered slice is a fault, and in none of version 1: operations come with
-/// their retirements in any order, and a summary's entry covers none.
+/// A covered slice is a fault only in an archive's text of version 2: in version 1 and in operations, retirements may
+/// occur in any order, and a summary's entry covers none.
 pub fn covered_in_archives_alone()
     ensures old { (text rest : List ℕ) (fault : RecordFault) → text ≡ old_magic ++ rest → IsFault text fault
         → fault.kind ≢ Covered }
@@ -173,9 +173,8 @@ pub fn covered_in_archives_alone()
     ensures summaries { (text : List ℕ) (fault : RecordFault) → IsSummaryFault text fault → fault.kind ≢ Covered }
 {}
 
-/// A covered slice is admitted after the longest good front, among whose records stands the retirement of its key and
-/// SHA-256; the fault is told where its admission begins. And it is told of each slice of which that is so after a
-/// good front.
+/// A covered slice is admitted after the longest good front, whose records include the retirement of its key and
+/// SHA-256; the fault is at the offset of its admission. Conversely, each such slice after a good front has this fault.
 pub fn covered_in_words()
     ensures stands { (text : List ℕ) (fault : RecordFault) → IsFault text fault → fault.kind ≡ Covered
         → (records : List (List ℕ)) × (slice : List ℕ) × (rest : List ℕ) × IsLongestFront Archive text records
@@ -194,14 +193,15 @@ pub fn one_list_of_good_records()
     ensures { (text : List ℕ) (a b : List (List ℕ)) → AreGoodRecords text a → AreGoodRecords text b → a ≡ b }
 {}
 
-/// Bytes have a list of good records.
+/// Any bytes have a list of good records.
 pub fn good_records_exist()
     ensures { (text : List ℕ) → ((i : ℕ) → slice_index text i < 256)
         → (records : List (List ℕ)) × AreGoodRecords text records }
 {}
 
-/// Those of the text of a content are its records, and those of a text of version 1 its operations'. Those of two texts
-/// make the join of both, and it is that of the contents that they make.
+/// The good records of the text of a content are its records, and those of a text of version 1 are those of its
+/// operations. Those of two texts make the join of both, which is also the join of the contents that their operations
+/// make.
 pub fn good_records_of_texts()
     ensures records { (o : Operations) → IsContent o → AreGoodRecords (written o) (listing o) }
     ensures old { (p : Operations) → AreOperations p → AreGoodRecords (old_written p) (listing p) }
@@ -218,7 +218,7 @@ pub fn texts_or_one_side_stops()
         ⊎ RightStops left right lefts rights }
 {}
 
-/// Of two sides one at most stops their merge, after one text.
+/// At most one of two sides stops their merge, after one text.
 pub fn one_side_stops()
     ensures side { (left right : List ℕ) (lefts rights : List (List ℕ)) → LeftStops left right lefts rights
         → RightStops left right lefts rights → ⊥ }
@@ -226,13 +226,14 @@ pub fn one_side_stops()
         → IsWrittenBefore left right o low b → a ≡ b }
 {}
 
-/// What a merge writes that is stopped is no archive's text: no beginning of such a text is one but the whole.
+/// A merge that is stopped writes no text of an archive: no proper beginning of such a text is one.
 pub fn beginning_is_no_text()
     ensures { (o : Operations) (n : ℕ) → IsContent o → n < length (written o) → IsArchiveText (take n (written o)) → ⊥ }
 {}
 
-/// The good records of any two inputs make a content. What a merge has written that a side stopped is a beginning of
-/// its text and not all of it, so no archive's text; and no first bytes of it are, as where the writer failed.
+/// The good records of any two inputs make a content. If a side stopped a merge, the written bytes are a beginning of
+/// that content's text, and not all of it, so not the text of an archive. No proper beginning of that text is the text
+/// of an archive, which covers a failure of the writer.
 pub fn refused_merge_is_no_text()
     ensures content { (left right : List ℕ) (lefts rights : List (List ℕ)) → AreGoodRecords left lefts
         → AreGoodRecords right rights → IsContent (of_both lefts rights) }
@@ -256,8 +257,8 @@ pub fn refused_merge_is_no_text()
         → ⊥ }
 {}
 
-/// What a merge of texts that give two contents has written that was stopped, as where the writer failed, are the first
-/// bytes of the text of their join, and not all of it.
+/// If a merge of texts of two contents was stopped, for instance because the writer failed, the written bytes are the
+/// first bytes of the text of their join, and not all of it.
 pub fn stopped_merge_of_texts<R: Source, S: Source, W: Sink>()
     ensures { (left : Stream R) (right : Stream S) (out : Stream W) (o p : Operations) (t u : List ℕ)
         (fault : MergeFault)

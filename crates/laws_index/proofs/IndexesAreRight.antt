@@ -305,7 +305,8 @@ module _ (os : List Operations) (texts : List (List ℕ)) (indexes : List (List 
       -- ---- the answer
 
       -- two entries of one slice of different indexes are of the same slice, as far as digests tell
-      pub one_of_two : (x y : EntryAt) (a b : List ℕ) → DigestsDiffer os → IsOfSlice os texts indexes x a → IsOfSlice os texts indexes y b → IsRepeatOf y x → a ≡ b
+      pub one_of_two : (x y : EntryAt) (a b : List ℕ) → DigestsDiffer os → IsOfSlice os texts indexes x a
+          → IsOfSlice os texts indexes y b → IsRepeatOf y x → a ≡ b
       one_of_two x y a b tell of_x of_y repeat =
           let fronts : key_bytes (key_of a) ++ sha256 a ≡ key_bytes (key_of b)
           ++ sha256 b = ap (drop 1) (sym of_x.is.prefix ∙ sym repeat.slices ∙ of_y.is.prefix) in

@@ -1,4 +1,4 @@
--- Contents, and the indexes that were made of them.
+-- Contents, and the indexes made from them.
 use Rattle.std.specs.Prelude.{◌≡◌, ◌≢◌, ◌<◌, ◌≤◌, ◌^◌, ℕ, true, List, Contains, Some, fold, length, slice_get}
 use Rattle.std.specs.List.{AllZip}
 use Rattle.std.specs.FinSet as set
@@ -19,7 +19,7 @@ pub record IsIndexFile (o : Operations) (text : List ℕ) : Type 0 where
   pub index : IsIndexOf o text
   pub index_fits : length text < 2 ^ 64
 
--- the texts are the indexes of these contents, each of one, and these are the entries that are read of them
+-- each text is the index of one of these contents, in order, and `indexes` are the entries that are read from them
 pub record AreIndexes (os : List Operations) (texts : List (List ℕ)) (indexes : List (List (List ℕ))) : Type 0 where
   pub files : AllZip IsIndexFile os texts
   pub read : AllZip IsIndexText texts indexes
@@ -28,27 +28,27 @@ pub record AreIndexes (os : List Operations) (texts : List (List ℕ)) (indexes 
 abbrev pub IsHeld : List Operations → List ℕ → Type 0
 IsHeld os slice = (o : Operations) × Contains os o × (set.contains o (admission_record slice) ≡ true)
 
--- no two different slices of several contents have one SHA-256; of one content nothing is supposed
+-- no two different slices of several contents have one SHA-256; for one content there is no assumption
 abbrev pub DigestsDiffer : List Operations → Type 0
 DigestsDiffer os = 2 ≤ length os → (a b : List ℕ) → IsHeld os a → IsHeld os b → sha256 a ≡ sha256 b → a ≡ b
 
--- the content that all of these make together
+-- the joint content of all of these
 abbrev pub all_joined : List Operations → Operations
 all_joined os = fold joined set.empty os
 
--- a content among others has the slice, which answers in the content that all make together
+-- a content among others has the slice, which answers in the joint content of all
 pub record IsAnsweringOf (os : List Operations) (key : SliceKey) (number : ℕ) (slice : List ℕ) : Type 0 where
   pub o : Operations
   pub there : slice_get os number ≡ Some o
   pub has : set.contains o (admission_record slice) ≡ true
   pub answers : IsAnswering (all_joined os) key slice
 
--- one of these contents has the slice, and it answers under the key with these bytes in the content that all make
+-- one of these contents has the slice, and it answers under the key with these bytes in their joint content
 pub record AnswersUnder (os : List Operations) (prefix slice : List ℕ) : Type 0 where
   pub is_held : IsHeld os slice
   pub answers : (key : SliceKey) → IsKey key → key_bytes key ≡ prefix → IsAnswering (all_joined os) key slice
 
--- two different slices of one length answer under a key, which two contents have
+-- two contents have two different slices of one length that answer under a key
 pub record AreTiedSlices (os : List Operations) (key : SliceKey) : Type 0 where
   pub one : List ℕ
   pub other : List ℕ

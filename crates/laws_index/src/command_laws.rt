@@ -1,4 +1,4 @@
-//! What the commands tell by the indexes of contents. Each law is a function with an empty body, and its contract the
+//! Laws of the commands with the indexes of contents. Each law is a function with an empty body, and its contract the
 //! law.
 
 ghost use Rattle.std.specs.Prelude.{◌≡◌, ◌≤◌, ◌<◌, ◌^◌, ◌⊎◌, ◌∷◌, [], ℕ, List, Bool, Option, Contains, Ok, length};
@@ -52,15 +52,15 @@ use byte_device::{Placed, Source};
 use index_build::laws::one_index;
 use table_source_frames::laws::one_slice_table;
 
-/// The index that `index` makes is the index file of a content, as the other laws ask, if neither it nor the archive has
-/// 2^64 bytes.
+/// The index that `index` makes is the index file of a content, as the other laws require, if neither it nor the
+/// archive has 2^64 bytes.
 pub fn made_index_is_of_a_content<R: Source>()
     ensures { (archive : Reader R) (text told : List ℕ) → (made : MakesIndex archive text told)
         → length (written made.content) < 2 ^ 64 → length text < 2 ^ 64 → IsIndexFile made.content text }
 {}
 
-/// The rows of the index of a content, under a prefix, are the list of what the content has there. Nothing is supposed
-/// of SHA-256, and no archive is read. A content that has an index file has such keys as this asks.
+/// The rows of the index of a content under a prefix are the list of the part of the content there. There is no
+/// assumption about SHA-256, and no archive is read. A content with an index file has the keys that this requires.
 pub fn rows_of_index()
     ensures rows { (prefix : List ℕ) (o : Operations) (rows : List FindRow) → length prefix ≤ 24 → IsContent o
         → HaveKeys o → length (written o) < 2 ^ 64 → AreIndexRows prefix (index o) rows
@@ -68,27 +68,27 @@ pub fn rows_of_index()
     ensures keys { (o : Operations) (text : List ℕ) → IsIndexFile o text → HaveKeys o }
 {}
 
-/// If INDEX is that of a content, `find` tells what it tells of that content, whatever bytes ARCHIVE has.
+/// If INDEX is that of a content, `find` has the report of that content, for any bytes of ARCHIVE.
 pub fn found_by_index<I: Placed, P: Placed>()
     ensures { (input : Reader I) (archive : Reader P) (o : Operations) (uuid : List ℕ) (status : Status)
         (text : List ℕ) → length uuid ≡ 16 → IsIndexGiven input o → (find_at input archive uuid).Makes status text
         → TellsFound o uuid status text }
 {}
 
-/// If INDEX is that of a content, `list` tells what it tells of that content, whatever bytes ARCHIVE has.
+/// If INDEX is that of a content, `list` has the report of that content, for any bytes of ARCHIVE.
 pub fn listed_by_index<I: Placed, P: Placed>()
     ensures { (input : Reader I) (archive : Reader P) (o : Operations) (status : Status) (text : List ℕ)
         → IsIndexGiven input o → (list_at input archive).Makes status text → TellsListed o status text }
 {}
 
-/// If INDEX is that of a content, `summary` makes the summary of that content, whatever bytes ARCHIVE has.
+/// If INDEX is that of a content, `summary` makes the summary of that content, for any bytes of ARCHIVE.
 pub fn summarized_by_index<I: Placed, P: Placed>()
     ensures { (input : Reader I) (archive : Reader P) (o : Operations) (text told : List ℕ) → IsIndexGiven input o
         → (summary_at input archive).Makes text told
         → (text ≡ summary_text (summary o)) × (told ≡ summary_report_of (summary o)) }
 {}
 
-/// With the indexes of these very archives a command is refused for a device alone: no index of its own content is
+/// With the indexes of these very archives a command is refused only for a device: no index of its own content is
 /// stale.
 pub fn right_index_is_accepted<I: Placed, P: Placed>()
     ensures alone { (number : ℕ) (input : Reader I) (archive : Reader P) (o : Operations) (at : InputName) (why : Why)
@@ -99,9 +99,9 @@ pub fn right_index_is_accepted<I: Placed, P: Placed>()
         → AreRefusedTogether prefixes inputs archives at why → IsDeviceFault why }
 {}
 
-/// If each INDEX is that of a content, what is held under prefixes of keys has what the join of these contents has
-/// there. Its archive is the text of the content, and nothing is supposed of SHA-256; or it has any bytes, and no slice
-/// of the content has the SHA-256 of a different slice in these.
+/// If each INDEX is that of a content, the content held under prefixes of keys has the records of the join of these
+/// contents there. Each ARCHIVE is the text of its content, and there is no assumption about SHA-256; or it has any
+/// bytes, and no slice of the content has the SHA-256 of a different slice in these.
 pub fn held_by_indexes<I: Placed, P: Placed>()
     ensures { (prefixes : List (List ℕ)) (inputs : List (Reader I)) (archives : List (Reader P)) (os : List Operations)
         (p : Operations) → AllByRecursion (λ prefix. length prefix ≤ 24) prefixes → AreIndexed inputs archives os
@@ -109,7 +109,7 @@ pub fn held_by_indexes<I: Placed, P: Placed>()
         → AreAlikeUnder prefix p (all_joined os) }
 {}
 
-/// So `find` tells of several archives what the join of the contents tells.
+/// So `find` over several archives has the report of the join of the contents.
 pub fn found_by_indexes<I: Placed, P: Placed>()
     ensures { (inputs : List (Reader I)) (archives : List (Reader P)) (os : List Operations) (uuid : List ℕ)
         (status : Status) (text : List ℕ) → length uuid ≡ 16 → AreIndexed inputs archives os
@@ -117,10 +117,11 @@ pub fn found_by_indexes<I: Placed, P: Placed>()
         → TellsFound (all_joined os) uuid status text }
 {}
 
-/// So does `symbolicate`, with lines and without, and with the lines of the slices that answer. If no two slices are
-/// tied under the key, that is so whatever bytes the archives have; by the index of one archive none are, and nothing
-/// is supposed of SHA-256. With the lines of slices the key may be refused: if its slice has no lines that are wanted,
-/// or if two are tied and an archive was changed. What slices tell that are read supposes nothing of several contents.
+/// The same holds for `symbolicate`, with and without lines, and with the lines of the slices that answer. If no two
+/// slices are tied under the key, it holds for any bytes of the archives; with the index of one archive none are tied,
+/// and there is no assumption about SHA-256. With the lines of slices the key may be refused: if its slice has no lines
+/// that are wanted, or if two are tied and an archive was changed. Answers of slices that are read need no assumption
+/// about several contents.
 pub fn answered_by_indexes<I: Placed, P: Placed>()
     ensures untied { (inputs : List (Reader I)) (archives : List (Reader P)) (os : List Operations) (key : SliceKey)
         (load : Option ℕ) (lines slices : Bool) (addresses : List ℕ) (status : Status) (text : List ℕ)
@@ -145,8 +146,8 @@ pub fn answered_by_indexes<I: Placed, P: Placed>()
         → TellsAddressesOrBesides archives os key load lines slices addresses status text }
 {}
 
-/// So does `frames`, where the frames of a key that is not refused have the answers of the join. The frames that a text
-/// says have such keys as this asks.
+/// The same holds for `frames`: the frames of a key that is not refused have the answers of the join. The frames of a
+/// text have the keys that this requires.
 pub fn framed_by_indexes<I: Placed, P: Placed>()
     ensures untied { (inputs : List (Reader I)) (archives : List (Reader P)) (os : List Operations)
         (lines slices : Bool)
@@ -171,9 +172,9 @@ pub fn framed_by_indexes<I: Placed, P: Placed>()
         → Contains listed frame → IsKey frame.key }
 {}
 
-/// What `extract` writes by the indexes of these very archives is the wanted slice of the join of the contents, if no
-/// two different slices of several contents have one SHA-256. By the index of one archive it is that of its content,
-/// and nothing is supposed of SHA-256.
+/// The slice that `extract` writes by the indexes of these very archives is the wanted slice of the join of the
+/// contents, if no two different slices of several contents have one SHA-256. With the index of one archive it is that
+/// of its content, and there is no assumption about SHA-256.
 pub fn extracted_by_indexes<I: Placed, P: Placed>()
     ensures entry { (inputs : List (Reader I)) (archives : List (Reader P)) (os : List Operations) (key : SliceKey)
         (digest : Option Digest) (slice told : List ℕ) → AreOwnIndexes inputs archives os → DigestsDiffer os
@@ -189,9 +190,9 @@ pub fn extracted_by_indexes<I: Placed, P: Placed>()
         → IsWanted (all_joined os) key digest slice × (told ≡ slice_line slice) }
 {}
 
-/// If no entry is wanted by the indexes of contents, whatever bytes the archives have, no slice of the join of the
-/// contents is. With a digest no slice that is held has it, nothing is told, and nothing is supposed of SHA-256.
-/// Without one the lines are those of the slices that answer, in their order, if no two different slices of several
+/// If the indexes of contents have no entry that is wanted, for any bytes of the archives, the join of the contents has
+/// no slice that is wanted. With a digest, no held slice has it, nothing is reported, and there is no assumption about
+/// SHA-256. Without one, the lines are those of the slices that answer, in order, if no two different slices of several
 /// contents have one SHA-256.
 pub fn undecided_by_indexes<I: Placed, P: Placed>()
     ensures digest { (inputs : List (Reader I)) (archives : List (Reader P)) (os : List Operations) (key : SliceKey)
@@ -210,9 +211,9 @@ pub fn undecided_by_indexes<I: Placed, P: Placed>()
         → TellsUndecided (all_joined os) key digest told }
 {}
 
-/// By the indexes of contents a table is refused for a device alone, or if lines are wanted at the entry of a slice that
-/// answers under a key of the frames and has none, whatever bytes the archives have. By the indexes of these very
-/// archives all that is refused is so, and a key that is refused alone is so for such a slice.
+/// By the indexes of contents a table is refused only for a device, or, if lines are wanted, at the entry of a slice
+/// that answers under a key of the frames and has none, for any bytes of the archives. By the indexes of these very
+/// archives this holds for all refusals, and a key is refused alone only for such a slice.
 pub fn undamaged_by_indexes<I: Placed, P: Placed>()
     ensures tables { (lines slices : Bool) (frames : List Frame) (inputs : List (Reader I))
         (archives : List (Reader P)) (os : List Operations) (at : InputName) (why : Why) → AreIndexesGiven inputs os
@@ -228,8 +229,8 @@ pub fn undamaged_by_indexes<I: Placed, P: Placed>()
         → IsRefusedForLines lines os refusal }
 {}
 
-/// Two calls for the same frames, by the indexes of these very archives, of the same contents, refuse one input, for one
-/// reason, unless for a device, if no two different slices of several contents have one SHA-256.
+/// Two calls for the same frames, by the indexes of these very archives, with the same contents, refuse the same input
+/// for the same reason, unless for a device, if no two different slices of several contents have one SHA-256.
 pub fn one_refusal_by_indexes<I: Placed, J: Placed, P: Placed, Q: Placed>()
     ensures { (lines slices : Bool) (frames : List Frame) (inputs : List (Reader I)) (archives : List (Reader P))
         (others : List (Reader J)) (more : List (Reader Q)) (os : List Operations) (at other : InputName)

@@ -1,5 +1,5 @@
-//! What indexes tell together is what the contents tell as one that they were made of. Each law is the contract of a
-//! function that does nothing.
+//! The answers of several indexes are those of the joint content from which they were made. Each law is the contract of
+//! a function that does nothing.
 
 ghost use Rattle.std.specs.Prelude.{◌≡◌, ℕ, Bool, List, Option, [], ◌∷◌, Some, drop, slice_get, true};
 ghost use Rattle.archive_core.specs.Content.{Operations};
@@ -24,9 +24,9 @@ ghost use Rattle.index_lookup.specs.declared.fault.AnswerFault.TheVariants.{Dama
 ghost use Rattle.laws_index.specs.Indexes.{AnswersUnder, AreIndexes, AreTiedSlices, DigestsDiffer, IsIndexFile};
 ghost use Rattle.laws_index.specs.Indexes.{all_joined};
 
-/// The answer of several indexes under a key is that of the content that their contents make together, with the frames
-/// that are shown, if no two different slices of these have one SHA-256. The answer of one index is that of its
-/// content, and nothing is supposed of SHA-256.
+/// The answer of several indexes under a key is that of the joint content of their contents, with the shown frames, if
+/// no two different slices of these have one SHA-256. The answer of one index is that of its content, and there is no
+/// assumption about SHA-256.
 pub fn right_among()
     ensures several { (os : List Operations) (texts : List (List ℕ)) (indexes : List (List (List ℕ))) (key : SliceKey)
         (lines : Bool) (asked : Where) (answer : AnswerRecord) (frames : List (List FrameRecord))
@@ -40,8 +40,8 @@ pub fn right_among()
         → IsAnswerWithFrames o key lines asked answer frames }
 {}
 
-/// No entry that answers is damaged: its table is stored where it says. One whose table has no lines is that of a slice
-/// that answers and has none. Nothing is supposed of SHA-256.
+/// No entry that answers is damaged: its table is stored at its offset. An entry whose table has no lines is that of a
+/// slice that answers and has none. There is no assumption about SHA-256.
 pub fn undamaged_among()
     ensures entry { (os : List Operations) (texts : List (List ℕ)) (indexes : List (List (List ℕ)))
         (prefix text : List ℕ) (x : EntryAt) → AreIndexes os texts indexes → IsAmong indexes x
@@ -56,15 +56,15 @@ pub fn undamaged_among()
         → (slice : List ℕ) × AnswersUnder os prefix slice × HasNoLines slice }
 {}
 
-/// Entries that are tied are those of two different slices of one length that answer under the key, of two contents.
-/// Nothing is supposed of SHA-256.
+/// Tied entries are those of two different slices of one length, of two contents, that answer under the key. There is
+/// no assumption about SHA-256.
 pub fn tied_among()
     ensures { (os : List Operations) (texts : List (List ℕ)) (indexes : List (List (List ℕ))) (key : SliceKey)
         → AreIndexes os texts indexes → IsKey key → AreTied (key_bytes key) indexes → AreTiedSlices os key }
 {}
 
-/// Over any bytes of an index, an entry of the index of a content tells what its slice has: symbols, frames, or a lack
-/// of lines; unless other bytes at the place of a page of the table, or of its digests, have the digest of that page.
+/// Over any bytes of an index, an entry of the index of a content gives what its slice has (symbols, frames, or no
+/// lines), unless other bytes at a page of the table, or at its digests, have the digest of that page.
 pub fn right_over_any_bytes()
     ensures symbols { (index text r : List ℕ) (entries : List (List ℕ)) (asked : Where) (own : Option FoundRecord)
         → (table : HasTable index entries r) → DigestsDecidePages text (claim_in table.e) table.table

@@ -1,8 +1,8 @@
-//! What is told of indexes is right of the contents that they were made of: definitions and laws alone.
+//! The answers of indexes are right for the contents from which they were made: definitions and laws only.
 //!
-//! - [`laws`]: of answers, of entries without a table, and of slices that no entry puts in order;
-//! - [`command_laws`]: what the commands tell by indexes is what they tell of the contents: of rows, of summaries, of
-//!   what is refused, and of what is asked of several archives together.
+//! - [`laws`]: laws of answers, of entries without a table, and of slices that no entry puts in order;
+//! - [`command_laws`]: the commands with indexes have the reports of the contents: laws of rows, of summaries, of
+//!   refusals, and of several archives read together.
 #![tactic(auto)]
 
 pub mod command_laws;

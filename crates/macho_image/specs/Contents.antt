@@ -33,7 +33,7 @@ symtab_among commands = option_map symtab_fields (find is_symtab commands)
 abbrev pub uuid_of : List ℕ → List ℕ
 uuid_of image = unwrap_or (uuid_among (commands image)) []
 
--- where the symbols of an image lie, where it has an LC_SYMTAB
+-- the offsets and sizes of an image's symbol table and string table, if it has an LC_SYMTAB
 abbrev pub symtab_of : List ℕ → Option Symtab
 symtab_of image = symtab_among (commands image)
 

@@ -1,4 +1,4 @@
--- What a walk over load commands finds: the words of inner functions. No contract of a public one has them.
+-- The results of a walk over load commands: definitions of inner functions. No contract of a public function uses them.
 use Rattle.std.specs.Prelude.{◌≡◌, ◌≢◌, ◌++◌, ℕ, List, Option}
 use Rattle.std.specs.List.{AllByRecursion}
 use Rattle.macho_image.specs.Commands.{IsCommand, HasRoom}
@@ -6,11 +6,11 @@ use Rattle.macho_image.specs.Fault.{AreCommands}
 use Rattle.macho_image.specs.Contents.{uuid_among, symtab_among}
 use Rattle.macho_image.specs.declared.symtab_command.Symtab.{Symtab}
 
--- no command begins the bytes
+-- the bytes do not begin with a command
 abbrev pub HasNoCommand : List ℕ → Type 0
 HasNoCommand bytes = (command rest : List ℕ) → IsCommand command → bytes ≢ command ++ rest
 
--- nothing is wrong with so many commands of the bytes, and they say this UUID and this symbol table
+-- the first `count` commands of the bytes have no fault, and they have this UUID and this symbol table
 pub record AreContents (area : List ℕ) (count : ℕ) (uuid : Option (List ℕ)) (symtab : Option Symtab) : Type 0 where
   pub commands : List (List ℕ)
   pub sound : AreCommands area count commands

@@ -6,7 +6,7 @@ use Rattle.macho_image.specs.Contents.{uuid_bytes, symtab_fields}
 use Rattle.macho_image.specs.declared.load_command.LoadCommand.{LoadCommand}
 use Rattle.macho_image.specs.declared.load_command.LoadCommand.TheVariants.{Uuid, Segment, Symtab, Other}
 
--- the command of these bytes, which stand at a place of the image, by its cmd
+-- the command with these bytes, which are at an offset of the image, by its cmd
 unfoldable pub load_command : ℕ → List ℕ → LoadCommand
 load_command offset command =
     if is_segment command then Segment (record { offset = offset; bytes = command })
@@ -14,7 +14,7 @@ load_command offset command =
     else if is_symtab command then Symtab (symtab_fields command)
     else Other
 
--- commands that stand one after another from a place on
+-- consecutive commands, the first at this offset
 unfoldable pub load_commands_from : ℕ → List (List ℕ) → List LoadCommand
 load_commands_from offset [] = []
 load_commands_from offset (command ∷ commands) =
@@ -24,7 +24,7 @@ load_commands_from offset (command ∷ commands) =
 abbrev pub load_commands : List ℕ → List LoadCommand
 load_commands image = load_commands_from 32 (commands image)
 
--- the segment that a load command is, if it is one
+-- the segment of a load command; None if the command is of another kind
 abbrev pub segment_of : LoadCommand → Option SegmentRecord
 segment_of (Uuid uuid) = None
 segment_of (Segment segment) = Some segment

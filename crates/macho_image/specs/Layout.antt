@@ -1,21 +1,21 @@
--- Where the numbers and names of a thin 64-bit image lie (mach-o/loader.h). Each number is little-endian.
+-- The offsets of the numbers and names in a thin 64-bit image (mach-o/loader.h). Each number is little-endian.
 use Rattle.std.specs.Prelude.{ℕ, List, drop, take, ◌∷◌, [], ◌==◌}
 use Rattle.std.specs.List.{before_first}
 use Rattle.byteorder.specs.Endian.{little_number}
 
--- uint32_t: the number in the four bytes from a place
+-- uint32_t: the number in the four bytes from an offset
 unfoldable pub u32_le_at : List ℕ → ℕ → ℕ
 u32_le_at bytes offset = little_number 4 (drop offset bytes)
 
--- uint64_t: the number in the eight bytes from a place
+-- uint64_t: the number in the eight bytes from an offset
 unfoldable pub u64_le_at : List ℕ → ℕ → ℕ
 u64_le_at bytes offset = little_number 8 (drop offset bytes)
 
--- char[16]: what stands before the first NUL of the sixteen bytes from a place, or all of them
+-- char[16]: the bytes before the first NUL of the sixteen bytes from an offset, or all sixteen if there is none
 abbrev pub name_at : List ℕ → ℕ → List ℕ
 name_at bytes offset = before_first (λ b. b == 0) (take 16 (drop offset bytes))
 
--- MH_MAGIC_64 (0xfeedfacf), as the bytes of a little-endian image begin
+-- MH_MAGIC_64 (0xfeedfacf), the first four bytes of a little-endian image
 abbrev pub magic : List ℕ
 magic = 0xcf ∷ 0xfa ∷ 0xed ∷ 0xfe ∷ []
 

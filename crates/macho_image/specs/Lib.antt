@@ -5,5 +5,5 @@ pub mod Contents
 pub mod Kinds
 pub mod Sections
 pub mod SectionViews
--- the words of inner functions: no contract of a public one has them
+-- definitions of inner functions: no contract of a public function uses them
 pub mod Inner

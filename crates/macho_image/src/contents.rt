@@ -1,4 +1,4 @@
-//! What an image says of itself, read in one walk over its load commands, which tests each of them.
+//! The statements of an image about itself, read in one walk over its load commands, which tests each of them.
 
 ghost use Rattle.std.specs.Prelude.{◌≡◌, ◌+◌, ◌<◌, ◌^◌, [], ◌∷◌, Bool, true, Some, None, IfOk, IfErr, is_some, length};
 ghost use Rattle.std.specs.Option.{option_or};
@@ -15,7 +15,7 @@ use crate::segment::is_short;
 use crate::symtab_command::Symtab;
 use uuid::Uuid;
 
-/// Tests that a command has room for what its kind holds. Its number counts the commands before it.
+/// Tests that a command is long enough for its kind. `number` is the index of the command.
 fn check_room(number: u32, command: &[u8]) -> Result<(), ImageFault>
     requires { IsCommand command.now }
     ensures faulty { IfErr result (λ fault. (has_uuid has_symtab : Bool) →
@@ -30,7 +30,7 @@ fn check_room(number: u32, command: &[u8]) -> Result<(), ImageFault>
     }
 }
 
-/// What the load commands say, as far as they were read.
+/// The UUID and the symbol table of the load commands that were read so far.
 #[derive(Clone, Copy)]
 pub(crate) struct Contents {
     pub(crate) uuid: Option<Uuid>,
@@ -38,7 +38,7 @@ pub(crate) struct Contents {
 }
 
 impl Contents {
-    /// What they say with the UUID of one command more. Its number counts the commands before it.
+    /// Adds the UUID of the next command, whose index is `number`. The error is `SecondUuid` if there is one already.
     fn with_uuid(self, number: u32, uuid: Uuid) -> Result<Contents, ImageFault>
         ensures faulty { IfErr result (λ fault. (fault ≡ SecondUuid number) × (is_some self.uuid ≡ true)) }
         ensures alone { IfOk result (λ _. self.uuid ≡ None) }
@@ -54,7 +54,8 @@ impl Contents {
         })
     }
 
-    /// What they say with the symbol table of one command more. Its number counts the commands before it.
+    /// Adds the symbol table of the next command, whose index is `number`. The error is `SecondSymtab` if there is one
+    /// already.
     fn with_symtab(self, number: u32, symtab: Symtab) -> Result<Contents, ImageFault>
         ensures faulty { IfErr result (λ fault. (fault ≡ SecondSymtab number) × (is_some self.symtab ≡ true)) }
         ensures alone { IfOk result (λ _. self.symtab ≡ None) }
@@ -70,8 +71,8 @@ impl Contents {
         })
     }
 
-    /// What they say with one command more, which stands at an offset of the image. Its number counts the
-    /// commands before it. A segment and a command of any other kind say nothing.
+    /// Adds the UUID or the symbol table of the next command, which is at an offset of the image and whose index is
+    /// `number`. A segment and a command of any other kind add nothing.
     #[tactic(auto, unfolding(crate::specs::Kinds::load_command))]
     fn with_command(self, number: u32, offset: u32, command: &[u8]) -> Result<Contents, ImageFault>
         requires command { IsCommand command.now }
@@ -93,8 +94,9 @@ impl Contents {
     }
 }
 
-/// What the first commands of the bytes say, so many of them, or the first fault among them. The bytes begin
-/// at an offset of the image. It stops where no command is left, however many the count promises.
+/// The UUID and the symbol table of the first `count` load commands, or the first fault among them. The bytes begin at
+/// the offset `start` of the image. It stops at the first missing command, whatever the count, with the fault
+/// `BadCommand`.
 pub(crate) fn read_load_commands(
     area: &[u8],
     start: u32,

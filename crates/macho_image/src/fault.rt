@@ -1,8 +1,8 @@
 /// Why bytes are no image.
 ///
-/// `TooLarge` is tested first, then the first three in this order, then the load commands from the first
-/// on, and last `NoUuid`. A number is the index of the faulty load command, counted from 0; where several
-/// faults of that command apply, it is the first of them here.
+/// `TooLarge` is tested first, then the first three in this order, then the load commands from the first on, and last
+/// `NoUuid`. A number is the index of the faulty load command, counted from 0. If the command has several faults, the
+/// first of them in this order is reported.
 #[derive(Clone, Copy, Debug, PartialEq, Eq)]
 pub enum ImageFault {
     /// The bytes do not begin with MH_MAGIC_64, little-endian: `CF FA ED FE`.
@@ -11,8 +11,8 @@ pub enum ImageFault {
     HeaderTruncated,
     /// The `sizeofcmds` bytes after the header pass the end.
     CommandsOutside,
-    /// Fewer than 8 of the `sizeofcmds` bytes are left for this command, or its `cmdsize` is below 8 or
-    /// above what is left.
+    /// Fewer than 8 of the `sizeofcmds` bytes are left for this command, or its `cmdsize` is below 8 or above the
+    /// number of bytes left.
     BadCommand(u32),
     /// An LC_SEGMENT_64 whose `cmdsize` is below `72 + 80 * nsects`.
     BadSegment(u32),

@@ -1,4 +1,4 @@
-//! `mach_header_64`, with which an image begins.
+//! `mach_header_64`, the header at the beginning of an image.
 
 ghost use Rattle.std.specs.Prelude.{◌≡◌, ◌+◌, ◌≤◌, Some, None, IfOk, IfErr, length};
 ghost use Rattle.macho_image.specs.Layout.{cputype, cpusubtype, filetype, ncmds, sizeofcmds, command_bytes};
@@ -8,7 +8,7 @@ use crate::fault::ImageFault;
 use crate::loader::{MACH_HEADER_64_LEN, MH_MAGIC_64};
 use crate::number::number32;
 
-/// The bits of `cpusubtype` that tell capabilities (mach/machine.h).
+/// The bits of `cpusubtype` for capabilities (mach/machine.h).
 pub(crate) const CPU_SUBTYPE_MASK: u32 = 0xff00_0000;
 
 /// `cputype`.
@@ -59,7 +59,8 @@ pub(crate) fn command_bytes(image: &[u8]) -> &[u8]
     &image[MACH_HEADER_64_LEN..][..sizeofcmds(image) as usize]
 }
 
-/// Whether the bytes begin with a header and have room for the load commands after it.
+/// Tests that the bytes begin with a header and that the load commands after it do not pass the end. The errors are
+/// `TooLarge`, `NotMachO64`, `HeaderTruncated` and `CommandsOutside`, tested in this order.
 pub(crate) fn check_header(bytes: &[u8]) -> Result<(), ImageFault>
     ensures faulty { IfErr result (λ fault. header_fault bytes.now ≡ Some fault) }
     ensures sound { IfOk result (λ _. header_fault bytes.now ≡ None) }

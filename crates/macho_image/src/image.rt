@@ -23,7 +23,7 @@ use crate::symtab_command::Symtab;
 use std::marker::Model;
 use uuid::Uuid;
 
-/// A thin 64-bit image, which borrows its bytes. A contract sees it as these bytes.
+/// A thin 64-bit image, which borrows its bytes. A contract sees these bytes.
 #[derive(Drop)]
 pub struct Image<'a> {
     bytes: &'a [u8],
@@ -45,9 +45,8 @@ impl<'a> Model for Image<'a> {
 impl<'a> Image<'a> {
     ghost use Rattle.macho_image.specs.SectionViews.{section_view};
 
-    /// Reads an image in one pass over its load commands, or says what is wrong with it, as `ImageFault`
-    /// tells. Bytes may follow the last command, and each command may be longer than its structure;
-    /// commands of other kinds are passed over.
+    /// Reads an image in one pass over its load commands. The errors are those of `ImageFault`. Bytes may follow the
+    /// last command, and each command may be longer than its structure; commands of other kinds are skipped.
     pub fn read(bytes: &'a [u8]) -> Result<Image<'a>, ImageFault>
         ensures faulty { IfErr result (λ fault. IsImageFault bytes.now fault) }
         ensures sound { IfOk result (λ _. IsImage bytes.now) }
@@ -69,8 +68,7 @@ impl<'a> Image<'a> {
         })
     }
 
-    /// The image of bytes that were read before, by what [`Image::parts`] gave of them. No command is looked at
-    /// again.
+    /// The image of bytes that were read before, with the result of [`Image::parts`]. The commands are not read again.
     pub fn of_parts(bytes: &'a [u8], uuid: Uuid, symtab: Option<Symtab>) -> Image<'a>
         requires { IsRead bytes.now uuid symtab }
         ensures { result ≡ bytes.now }
@@ -82,14 +80,14 @@ impl<'a> Image<'a> {
         }
     }
 
-    /// What reading found, for who keeps the bytes: [`Image::uuid`] and [`Image::symtab`].
+    /// The results of reading, for a caller that keeps the bytes: [`Image::uuid`] and [`Image::symtab`].
     pub fn parts(&self) -> (Uuid, Option<Symtab>)
         ensures { IsRead self.now result.0 result.1 }
     {
         (self.uuid, self.symtab)
     }
 
-    /// The same image once more, of the same borrowed bytes.
+    /// The same image again, with the same borrowed bytes.
     pub fn copy(&self) -> Image<'a>
         ensures { result ≡ self.now }
     {
@@ -100,7 +98,7 @@ impl<'a> Image<'a> {
         }
     }
 
-    /// The bytes of the image, all that were read.
+    /// All bytes of the image.
     pub fn bytes(&self) -> &'a [u8]
         ensures bytes { result.now ≡ self.now }
         ensures sound { IsImage self.now }
@@ -109,15 +107,15 @@ impl<'a> Image<'a> {
         self.bytes
     }
 
-    /// The UUID of the build: `uuid` of LC_UUID. A companion has that of its image.
+    /// The UUID of the build: `uuid` of LC_UUID. A companion has the UUID of its image.
     pub fn uuid(&self) -> Uuid
         ensures { result ≡ uuid_of self.now }
     {
         self.uuid
     }
 
-    /// The architecture: `cputype`, and `cpusubtype` without its capability bits, in which an image and its
-    /// companion may differ.
+    /// The architecture: `cputype`, and `cpusubtype` without its capability bits, which may differ between an image and
+    /// its companion.
     pub fn arch(&self) -> (u32, u32)
         ensures { result ≡ arch_of self.now }
     {
@@ -134,14 +132,14 @@ impl<'a> Image<'a> {
         filetype(self.bytes) == MH_DSYM
     }
 
-    /// Where the symbol table lies; `None` where there is no LC_SYMTAB.
+    /// The offsets and sizes of the symbol table and the string table; `None` if there is no LC_SYMTAB.
     pub fn symtab(&self) -> Option<Symtab>
         ensures { result ≡ symtab_of self.now }
     {
         self.symtab
     }
 
-    /// The load commands, in the order of the file. Each has room for what its kind holds.
+    /// The load commands, in the order of the file. Each is long enough for its kind.
     pub fn commands(&self) -> LoadCommands<'a>
         ensures all { result ≡ load_commands self.now }
         ensures room { AllByRecursion HasRoom (commands self.now) }
@@ -154,8 +152,8 @@ impl<'a> Image<'a> {
         )
     }
 
-    /// The sections of all segments, in the order of the load commands. `Section::at` tells each of them again
-    /// out of its place.
+    /// The sections of all segments, in the order of the load commands. `Section::at` reads each of them again by its
+    /// offset.
     #[tactic(auto, unfolding(crate::specs::Sections::sections))]
     pub fn sections(&self) -> Sections<'a>
         ensures all { result ≡ sections self.now }
@@ -165,8 +163,7 @@ impl<'a> Image<'a> {
         Sections::of_commands(self.commands())
     }
 
-    /// The section of a number. The first is 1, as `n_sect` of a symbol counts them; `None` for 0 and past
-    /// the last.
+    /// The section with a number. The first is 1, as in `n_sect` of a symbol; `None` for 0 and past the last.
     pub fn section(&self, number: u8) -> Option<Section<'a>>
         ensures { option_map section_view result ≡ section_of self.now number }
     {
@@ -176,8 +173,8 @@ impl<'a> Image<'a> {
         self.sections().nth(number as usize - 1)
     }
 
-    /// `vmaddr` of the first segment named `__TEXT`, the address at which the image's text expects to
-    /// stand; `None` where there is no such segment.
+    /// `vmaddr` of the first segment named `__TEXT`: the address at which the image's text expects to be loaded; `None`
+    /// if there is no such segment.
     pub fn text_base(&self) -> Option<u64>
         ensures { result ≡ text_base_of self.now }
     {

@@ -1,5 +1,5 @@
-//! What the definitions say of each other, for every list of bytes. Each law is the contract of a function
-//! that does nothing.
+//! Relations between the definitions, for every list of bytes. Each law is the contract of a function that does
+//! nothing.
 
 ghost use Rattle.std.specs.Prelude.{◌≡◌, ◌+◌, ◌*◌, ◌<◌, ◌⊎◌, ℕ, List, true, Some};
 ghost use Rattle.std.specs.Prelude.{Contains, drop, take, length, slice_get};
@@ -11,7 +11,7 @@ ghost use Rattle.macho_image.specs.Fault.{IsImageFault, IsImage};
 ghost use Rattle.macho_image.specs.Sections.{SectionRecord, IsSectionOf, section_record, sections, sections_in};
 ghost use Rattle.macho_image.specs.declared.fault.ImageFault.{ImageFault};
 
-/// There is at most one list of so many first commands, and it is what the definition cuts.
+/// The bytes have at most one list of `count` first commands, and the definition returns it.
 pub fn one_list_of_commands()
     ensures is_cut { (count : ℕ) (area : List ℕ) (commands : List (List ℕ)) →
         AreFirst area count commands → first_commands count area ≡ commands }
@@ -26,7 +26,7 @@ pub fn one_fault()
     ensures none { (bytes : List ℕ) (f : ImageFault) → IsImage bytes → IsImageFault bytes f → ⊥ }
 {}
 
-/// Any LC_UUID of an image has its UUID, which has sixteen bytes, and any LC_SYMTAB has its symbol table.
+/// Each LC_UUID of an image has the image's UUID, of sixteen bytes, and each LC_SYMTAB has its symbol table.
 pub fn one_of_each()
     ensures uuid { (image command : List ℕ) → IsImage image → Contains (commands image) command →
         is_uuid command ≡ true → uuid_of image ≡ uuid_bytes command }
@@ -35,7 +35,7 @@ pub fn one_of_each()
         is_symtab command ≡ true → symtab_of image ≡ Some (symtab_fields command) }
 {}
 
-/// The sections of a segment stand after its 72 bytes, as many as it says and 80 bytes apart.
+/// The sections of a segment follow its first 72 bytes: `nsects` of them, 80 bytes apart.
 pub fn section_places()
     ensures number { (segment : SegmentRecord) → length (sections_in segment) ≡ nsects segment.bytes }
     ensures places { (segment : SegmentRecord) (i : ℕ) → i < nsects segment.bytes →
@@ -43,8 +43,8 @@ pub fn section_places()
         ≡ Some (section_record (segment.offset + 72 + 80 * i) (drop (72 + 80 * i) segment.bytes)) }
 {}
 
-/// Each segment of an image stands there at its place, and so does each section.
-pub fn standing()
+/// Each segment of an image is at its own offset, and so is each section.
+pub fn are_at_offsets()
     ensures segment { (image : List ℕ) (segment : SegmentRecord) → IsImage image → Contains (segments image) segment →
         take (length segment.bytes) (drop segment.offset image) ≡ segment.bytes }
     ensures section { (image : List ℕ) (section : SectionRecord) → IsImage image → Contains (sections image) section →

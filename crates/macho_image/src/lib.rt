@@ -1,13 +1,13 @@
-//! Thin 64-bit little-endian Mach-O images, as mach-o/loader.h describes them: the header, the load
-//! commands LC_UUID, LC_SYMTAB and LC_SEGMENT_64, and the sections.
+//! Thin 64-bit little-endian Mach-O images, as mach-o/loader.h describes them: the header, the load commands LC_UUID,
+//! LC_SYMTAB and LC_SEGMENT_64, and the sections.
 //!
-//! `Image::read` says whether bytes are an image, and else what is wrong with them. An image borrows its
-//! bytes; no call takes memory. File ranges of segments, sections and symbols are not checked here.
+//! `Image::read` returns an image or the fault of the bytes. An image borrows its bytes; no call allocates memory. File
+//! ranges of segments, sections and symbols are not checked here.
 //!
-//! The modules in reading order: `loader`, the constants; `number` and `name`; `fault`; then the structures,
-//! one each: `header`, `uuid_command`, `symtab_command`, `section`, `segment`, `load_command`; `load_commands`
-//! and `sections`, one after another; `contents`, the walk that tests the commands, and `image`; and `laws`,
-//! what the definitions say of each other.
+//! The modules in reading order: `loader`, the constants; `number` and `name`; `fault`; then the structures, one in
+//! each module: `header`, `uuid_command`, `symtab_command`, `section`, `segment`, `load_command`; `load_commands` and
+//! `sections`, the iterators; `contents`, the walk that tests the commands, and `image`; and `laws`: relations between
+//! the definitions.
 #![tactic(auto)]
 
 mod contents;

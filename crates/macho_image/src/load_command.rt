@@ -1,4 +1,4 @@
-//! `load_command`: what each command is.
+//! `load_command`: the kind of each command.
 
 ghost use Rattle.std.specs.Prelude.{◌≡◌, ◌+◌, ◌<◌, ◌≤◌, ◌^◌, ◌++◌, length, MatchOption};
 ghost use Rattle.macho_image.specs.Layout.{u32_le_at};
@@ -20,9 +20,9 @@ pub enum LoadCommand<'a> {
     Uuid(Uuid),
     /// LC_SEGMENT_64: a segment with its sections.
     Segment(SegmentCommand64<'a>),
-    /// LC_SYMTAB: where the symbol table and its strings lie.
+    /// LC_SYMTAB: the offsets and sizes of the symbol table and the string table.
     Symtab(Symtab),
-    /// Any other.
+    /// A command of another kind.
     Other,
 }
 
@@ -34,8 +34,8 @@ pub(crate) fn cmd(command: &[u8]) -> u32
     number32(command, 0)
 }
 
-/// The bytes of the load command that begins some bytes, and those after it. Any `cmdsize` that fits will
-/// do, a multiple of 8 or not.
+/// The load command that begins the bytes, and the bytes after it; `None` if the bytes do not begin with a command. Any
+/// `cmdsize` that fits is accepted, whether or not it is a multiple of 8.
 #[tactic(auto, using(crate::proofs::FirstCommands::commands_in_front))]
 pub(crate) fn split_command(bytes: &[u8]) -> Option<(&[u8], &[u8])>
     ensures { MatchOption result (HasNoCommand bytes.now) (λ p. IsCommand p.0.now × (bytes.now ≡ p.0.now ++ p.1.now)) }
@@ -51,7 +51,7 @@ pub(crate) fn split_command(bytes: &[u8]) -> Option<(&[u8], &[u8])>
 }
 
 impl<'a> LoadCommand<'a> {
-    /// The command of these bytes, which stand at an offset of the image.
+    /// The command with these bytes, which are at an offset of the image.
     #[tactic(auto, unfolding(crate::specs::Kinds::load_command))]
     pub(crate) fn of(offset: u32, bytes: &'a [u8]) -> LoadCommand<'a>
         requires room { HasRoom bytes.now }

@@ -8,7 +8,7 @@ ghost use Rattle.macho_image.specs.Kinds.{load_commands_from};
 use crate::load_command::{LoadCommand, split_command};
 use std::marker::Model;
 
-/// The load commands of an image, in order. A contract sees the list of those that are left.
+/// The load commands of an image, in order. A contract sees the list of the commands that are left.
 #[derive(Drop)]
 pub struct LoadCommands<'a> {
     offset: u32,
@@ -33,7 +33,7 @@ impl<'a> Model for LoadCommands<'a> {
 }
 
 impl<'a> LoadCommands<'a> {
-    /// So many, from the first of the bytes on, which stand at an offset of the image.
+    /// The first `count` commands of the bytes, which are at an offset of the image.
     pub(crate) fn new(offset: u32, bytes: &'a [u8], count: u32) -> LoadCommands<'a>
         requires room { AllByRecursion HasRoom (first_commands count bytes.now) }
         requires small { offset + length bytes.now < 2 ^ 32 }

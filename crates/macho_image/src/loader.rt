@@ -9,7 +9,7 @@ pub(crate) const MH_MAGIC_64: u32 = 0xfeed_facf;
 /// A `filetype`: a companion with debug information, and no contents for most sections.
 pub(crate) const MH_DSYM: u32 = 0xa;
 
-/// The size of `load_command`, with which each command begins.
+/// The size of `load_command`, the beginning of each command.
 pub(crate) const LOAD_COMMAND_LEN: usize = 8;
 
 /// A `cmd`: `symtab_command`.
@@ -21,7 +21,7 @@ pub(crate) const LC_SEGMENT_64: u32 = 0x19;
 /// A `cmd`: `uuid_command`.
 pub(crate) const LC_UUID: u32 = 0x1b;
 
-/// The size of `segment_command_64`, after which its sections stand.
+/// The size of `segment_command_64`; its sections follow it.
 pub(crate) const SEGMENT_COMMAND_64_LEN: usize = 72;
 
 /// The size of `segname` and of `sectname`.

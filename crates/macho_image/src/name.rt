@@ -1,4 +1,5 @@
-//! Names: those of segments and sections, which take sixteen bytes, filled up with NUL, and any that ends with one.
+//! Names: those of segments and sections, which have sixteen bytes and are padded with NUL, and those that end with
+//! NUL.
 
 ghost use Rattle.std.specs.Prelude.{◌≡◌, ◌+◌, ◌≤◌, ◌==◌, length};
 ghost use Rattle.std.specs.List.{before_first};
@@ -7,7 +8,7 @@ ghost use Rattle.macho_image.specs.Layout.{name_at};
 use crate::loader::NAME_LEN;
 use memchr::memchr;
 
-/// What stands before the first NUL, or all.
+/// The bytes before the first NUL, or all of them if there is none.
 #[tactic(auto, using(crate::proofs::Names::parts_at_nul))]
 pub fn before_nul(bytes: &[u8]) -> &[u8]
     ensures { result.now ≡ before_first (λ b. b == 0) bytes.now }

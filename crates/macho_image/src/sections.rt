@@ -11,8 +11,8 @@ use crate::section::Section;
 use crate::segment::SegmentSections;
 use std::marker::Model;
 
-/// The sections of an image, over all its segments and in the order of the load commands. A contract sees
-/// the list of those that are left.
+/// The sections of all segments of an image, in the order of the load commands. A contract sees the list of the
+/// sections that are left.
 #[derive(Drop)]
 pub struct Sections<'a> {
     of_segment: SegmentSections<'a>,
@@ -31,7 +31,7 @@ impl<'a> Model for Sections<'a> {
 }
 
 impl<'a> Sections<'a> {
-    /// Those of load commands.
+    /// The sections of these load commands.
     pub(crate) fn of_commands(commands: LoadCommands<'a>) -> Sections<'a>
         ensures { result ≡ flat_map sections_in (filter_map segment_of commands.entry) }
     {

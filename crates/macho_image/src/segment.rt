@@ -29,7 +29,7 @@ pub(crate) fn is_short(segment: &[u8]) -> bool
     segment.len() < SEGMENT_COMMAND_64_LEN + SECTION_64_LEN * nsects(segment) as usize
 }
 
-/// A segment, which has room for its sections. A contract sees its offset in the image, and its bytes.
+/// A segment, long enough for its sections. A contract sees its offset in the image, and its bytes.
 #[derive(Drop)]
 pub struct SegmentCommand64<'a> {
     offset: u32,
@@ -49,7 +49,7 @@ impl<'a> Model for SegmentCommand64<'a> {
 }
 
 impl<'a> SegmentCommand64<'a> {
-    /// The segment of these bytes, which stand at an offset of the image.
+    /// The segment with these bytes, which are at an offset of the image.
     pub(crate) fn of(offset: u32, bytes: &'a [u8]) -> SegmentCommand64<'a>
         requires room { 72 + 80 * nsects bytes.now ≤ length bytes.now }
         requires small { offset + length bytes.now < 2 ^ 32 }
@@ -94,7 +94,7 @@ impl<'a> SegmentCommand64<'a> {
     }
 }
 
-/// The sections of one segment. A contract sees the list of those that are left.
+/// The sections of one segment. A contract sees the list of the sections that are left.
 #[derive(Drop)]
 pub struct SegmentSections<'a> {
     offset: u32,
@@ -114,7 +114,7 @@ impl<'a> Model for SegmentSections<'a> {
 }
 
 impl<'a> SegmentSections<'a> {
-    /// None at all.
+    /// An iterator without sections.
     #[tactic(auto, unfolding(crate::specs::Sections::section_records))]
     pub(crate) fn none() -> SegmentSections<'a>
         ensures { result ≡ [] }

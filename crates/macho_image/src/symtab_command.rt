@@ -5,15 +5,15 @@ ghost use Rattle.macho_image.specs.Contents.{symtab_fields};
 
 use crate::number::number32;
 
-/// Where the symbol table and its strings lie, as LC_SYMTAB tells it. Neither range is checked: it may pass
-/// the end of the image.
+/// The offsets and sizes of the symbol table and the string table, as LC_SYMTAB has them. Neither range is checked: it
+/// may pass the end of the image.
 #[derive(Clone, Copy, Debug, PartialEq, Eq)]
 pub struct Symtab {
-    /// Where the symbol table begins, in bytes from the start of the image.
+    /// The offset of the symbol table in the image, in bytes.
     pub symoff: u32,
     /// The number of its entries, `nlist_64` of 16 bytes each.
     pub nsyms: u32,
-    /// Where the string table begins, in bytes from the start of the image.
+    /// The offset of the string table in the image, in bytes.
     pub stroff: u32,
     /// The size of the string table in bytes.
     pub strsize: u32,

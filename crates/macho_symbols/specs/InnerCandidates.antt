@@ -1,5 +1,5 @@
--- The candidates of an image with the places of their names, and the first of some: the words of inner functions. No
--- contract of a public one has them.
+-- The candidates of an image with the offsets of their names, and the first of several: definitions of inner functions.
+-- No contract of a public function uses them.
 use Rattle.std.specs.Prelude.{◌≡◌, ◌<◌, ◌≤◌, ◌==◌, ◌+◌, ◌^◌, ℕ, Bool, true, false, List, [], ◌∷◌, bit_and}
 use Rattle.std.specs.Prelude.{Contains, length, nat_lt, slice_get, slice_index_or, Option, Some, None, MatchOption}
 use Rattle.std.specs.Prelude.{◌&&◌, if◌then◌else◌, cond}
@@ -23,7 +23,7 @@ is_placed image entry =
     (bit_and (n_type entry) 0xe0 == 0) && (bit_and (n_type entry) 0x0e == 0x0e)
     && is_in_section image (n_sect entry) (n_value entry)
 
--- an entry that is a candidate, with the place of its name
+-- an entry that is a candidate, with the offset of its name
 unfoldable pub numbered_in : List ℕ → List ℕ → Option Candidate
 numbered_in image entry =
     if is_candidate image entry
@@ -35,21 +35,21 @@ numbered_in image entry =
     })
     else None
 
--- the candidate that the entry of an index is, if there is such an entry and it is one
+-- the candidate at an index, if there is such an entry and it is a candidate
 abbrev pub numbered_at : List ℕ → ℕ → Option Candidate
 numbered_at image i = option_map_or (numbered_in image) (slice_get (entries_of image) i) None
 
--- the candidate that the entry of an index is, if it can stand for an address
+-- the candidate at an index, if it is eligible for an address
 abbrev pub eligible_at : List ℕ → ℕ → ℕ → Option Candidate
 eligible_at image address i =
     option_map_or (λ c. cond (is_eligible image address (tuple_of (strings_of image) c)) (Some c) None)
     (numbered_at image i) None
 
--- one of the candidates that have numbers
+-- a candidate at some index
 abbrev pub IsAt : (ℕ → Option Candidate) → Candidate → Type 0
 IsAt at c = (i : ℕ) × (at i ≡ Some c)
 
--- these are the first so many entries of an image that are candidates
+-- these are the candidates among the first `count` entries of an image
 pub record AreCandidatesBelow (image : List ℕ) (count : ℕ) (candidates : List Candidate) : Type 0 where
   pub from : (c : Candidate) → Contains candidates c
       → (i : ℕ) × (i < count) × (numbered_in image (entry_of image i) ≡ Some c)
@@ -57,40 +57,40 @@ pub record AreCandidatesBelow (image : List ℕ) (count : ℕ) (candidates : Lis
       → Contains candidates c
   pub small : (c : Candidate) → Contains candidates c → c.sect < 2 ^ 8
 
--- these are the entries of an image that are candidates
+-- these are the candidates among all entries of an image
 abbrev pub AreCandidates : List ℕ → List Candidate → Type 0
 AreCandidates image candidates = AreCandidatesBelow image (table_of image).nsyms candidates
 
--- the order of candidates, and then that of the places of their names
+-- the order of candidates, and then that of the offsets of their names
 abbrev pub entry_cmp : List ℕ → Candidate → Candidate → Ordering
 entry_cmp strings c d =
     ordering_then (tuple_cmp (tuple_of strings c) (tuple_of strings d)) (nat_cmp c.n_strx d.n_strx)
 
--- whether the one comes before the other in that order
+-- whether one candidate comes before another in that order
 abbrev pub is_before : List ℕ → Candidate → Candidate → Bool
 is_before strings c d = is_lt (entry_cmp strings c d)
 
--- the first of some in that order, where there is any
+-- the first candidate in that order among several
 pub record IsLeast (strings : List ℕ) (among : Candidate → Type 0) (found : Candidate) : Type 0 where
   pub member : among found
   pub least : (other : Candidate) → among other → is_before strings other found ≡ false
 
--- the first of some, or none where there is none
+-- the first candidate among several, or none if there are none
 abbrev pub IsLeastOrNone : List ℕ → (Candidate → Type 0) → Option Candidate → Type 0
 IsLeastOrNone strings among found = MatchOption found ((c : Candidate) → among c → ⊥) (IsLeast strings among)
 
--- the first so far, if there is one, and one more, if there is one
+-- the first candidate so far, if there is one, and the next, if there is one
 abbrev pub first_of : List ℕ → Option Candidate → Option Candidate → Option Candidate
 first_of strings best None = best
 first_of strings None (Some c) = Some c
 first_of strings (Some b) (Some c) = Some (cond (is_before strings c b) c b)
 
--- values do not fall
+-- the values never decrease
 abbrev pub AreByValue : List Candidate → Type 0
 AreByValue candidates = (i j : ℕ) (d : Candidate) → i < j → j < length candidates
     → (slice_index_or candidates i d).value ≤ (slice_index_or candidates j d).value
 
--- where a section begins, and where it ends, if that is an address
+-- the first address of a section, and its end, if that is an address
 abbrev pub ends_below : SectionRecord → List ℕ
 ends_below s = s.addr ∷ (if nat_lt (s.addr + s.size) (2 ^ 64) then (s.addr + s.size) ∷ [] else [])
 
@@ -100,40 +100,40 @@ pub record AreTurns (image : List ℕ) (all : List ℕ) : Type 0 where
   pub from : (a : ℕ) → Contains all a → Contains (turns image) a
   pub each : (a : ℕ) → Contains (turns image) a → a < 2 ^ 64 → Contains all a
 
--- one of the first so many candidates
+-- one of the first `count` candidates
 abbrev pub IsNoted : List Candidate → ℕ → Candidate → Type 0
 IsNoted candidates count c = (i : ℕ) × (i < count) × (slice_get candidates i ≡ Some c)
 
--- the first so many candidates are not above an address
+-- the first `count` candidates are not above an address
 abbrev pub AreUpTo : List Candidate → ℕ → ℕ → Type 0
 AreUpTo candidates count address =
     (i : ℕ) (c : Candidate) → i < count → slice_get candidates i ≡ Some c → c.value ≤ address
 
--- the others are above it
+-- the candidates after the first `count` are above an address
 abbrev pub AreAbove : List Candidate → ℕ → ℕ → Type 0
 AreAbove candidates count address =
     (i : ℕ) (c : Candidate) → count ≤ i → slice_get candidates i ≡ Some c → address < c.value
 
--- of each section the first of the first so many candidates
+-- the first candidate of each section, among the first `count` candidates
 abbrev pub AreFirstsOf : List ℕ → List Candidate → ℕ → List (Option Candidate) → Type 0
 AreFirstsOf strings candidates count firsts = (k : ℕ) → k < length firsts
     → IsLeastOrNone strings (λ c. IsNoted candidates count c × (c.sect ≡ k + 1)) (slice_index_or firsts k None)
 
--- candidates name sections
+-- each candidate has the number of a section
 abbrev pub AreNumbered : List Candidate → ℕ → Type 0
 AreNumbered candidates count = (c : Candidate) → Contains candidates c → (0 < c.sect) × (c.sect ≤ count)
 
--- a candidate that can stand for an address
+-- a candidate that is eligible for an address
 abbrev pub IsEligibleAmong : List ℕ → List Candidate → ℕ → Candidate → Type 0
 IsEligibleAmong image candidates address c =
     Contains candidates c × (is_eligible image address (tuple_of (strings_of image) c) ≡ true)
 
--- the row of a turn by the nearest candidate there
+-- the row of a turn with the nearest candidate there
 abbrev pub row_saying : ℕ → Option Candidate → Row
 row_saying start None = record { start = start; value = 0; n_strx = 0; sect = 0 }
 row_saying start (Some c) = record { start = start; value = c.value; n_strx = c.n_strx; sect = c.sect }
 
--- what a sweep goes over, of an image
+-- the inputs of a sweep over an image
 pub record AreSwept (image strings : List ℕ) (all : List Section) (candidates : List Candidate) (turned : List ℕ)
     : Type 0 where
   pub strings_are : strings ≡ strings_of image

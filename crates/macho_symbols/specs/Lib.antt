@@ -11,6 +11,6 @@ pub mod Steps
 pub mod NulPlaces
 pub mod Table
 pub mod Suffixes
--- the words of inner functions: no contract of a public one has them
+-- definitions of inner functions: no contract of a public function uses them
 pub mod InnerCandidates
 pub mod InnerRanks

@@ -1,4 +1,4 @@
--- Which candidate an address belongs to.
+-- The nearest candidate of an address.
 use Rattle.std.specs.Prelude.{ℕ, Bool, true, List, ◌≡◌, ◌≢◌, ◌&&◌, nat_le, Option, MatchOption, Contains}
 use Rattle.std.specs.Ordering.{ordering_then, nat_cmp, bool_cmp}
 use Rattle.std.specs.declared.cmp.Ordering.{Ordering}
@@ -13,16 +13,16 @@ tuple_cmp c d =
     (ordering_then (bool_cmp d.external c.external)
     (ordering_then (slice_cmp nat_cmp c.name d.name) (nat_cmp c.sect d.sect)))
 
--- whether a candidate can stand for an address: not above it, and its section has it
+-- whether a candidate is eligible for an address: it is not above the address, and its section contains the address
 unfoldable pub is_eligible : List ℕ → ℕ → Tuple → Bool
 is_eligible image address c = nat_le c.value address && is_in_section image c.sect address
 
--- the first of some in the order, where there is any
+-- the first candidate in the order, among several
 pub record IsFirst (among : Tuple → Type 0) (found : Tuple) : Type 0 where
   pub member : among found
   pub first : (other : Tuple) → among other → tuple_cmp other found ≢ Less
 
--- a candidate that can stand for an address
+-- a candidate that is eligible for an address
 abbrev pub IsEligible : List ℕ → ℕ → Tuple → Type 0
 IsEligible image address c = Contains (candidates image) c × (is_eligible image address c ≡ true)
 

@@ -6,11 +6,11 @@ use Rattle.macho_image.specs.Layout.{u32_le_at, u64_le_at}
 abbrev pub IsEntry : List ℕ → Type 0
 IsEntry entry = length entry ≡ 16
 
--- nlist_64.n_strx: where the name begins in the string table
+-- nlist_64.n_strx: the offset of the name in the string table
 abbrev pub n_strx : List ℕ → ℕ
 n_strx entry = u32_le_at entry 0
 
--- nlist_64.n_type: what the entry is, in bits
+-- nlist_64.n_type: the kind of the entry, in bits
 abbrev pub n_type : List ℕ → ℕ
 n_type entry = slice_index entry 4
 

@@ -1,4 +1,4 @@
--- The rows of a table by where they start, and which of them an address belongs to.
+-- The rows of a table by their starts, and the row for an address.
 use Rattle.std.specs.Prelude.{◌≡◌, ◌<◌, ◌≤◌, ℕ, List, length, slice_index_or, slice_get, Option, Some, MatchOption}
 use Rattle.macho_symbols.specs.declared.row.Row.{Row}
 
@@ -7,7 +7,7 @@ abbrev pub AreRising : List Row → Type 0
 AreRising rows = (i j : ℕ) (d : Row) → i < j → j < length rows
     → (slice_index_or rows i d).start < (slice_index_or rows j d).start
 
--- a row is the last that begins at an address or below it
+-- a row is the last that begins at or below an address
 pub record IsLastNotAbove (rows : List Row) (address : ℕ) (row : Row) : Type 0 where
   pub at : ℕ
   pub stands : slice_get rows at ≡ Some row
@@ -18,6 +18,6 @@ pub record IsLastNotAbove (rows : List Row) (address : ℕ) (row : Row) : Type 0
 abbrev pub AreAbove : List Row → ℕ → Type 0
 AreAbove rows address = (j : ℕ) (d : Row) → j < length rows → address < (slice_index_or rows j d).start
 
--- the row that an address belongs to, or none
+-- the row for an address, or none
 abbrev pub IsRowFor : List Row → ℕ → Option Row → Type 0
 IsRowFor rows address found = MatchOption found (AreAbove rows address) (IsLastNotAbove rows address)

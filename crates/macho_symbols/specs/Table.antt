@@ -7,14 +7,14 @@ use Rattle.macho_symbols.specs.Steps.{AreSteps}
 use Rattle.macho_symbols.specs.NulPlaces.{AreNulPlaces}
 use Rattle.macho_symbols.specs.declared.row.Row.{Row}
 
--- what an address table holds
+-- the contents of an address table
 pub record TableParts : Type 0 where
   pub rows : List Row
   pub section_places : List ℕ
   pub nul_places : List ℕ
   pub symtab : Symtab
 
--- the table tells the nearest candidates step by step, the places of the sections, the NULs of the string table and the
+-- the table has the steps of the nearest candidates, the offsets of the sections, the NULs of the string table, and the
 -- LC_SYMTAB of an image
 pub record IsTableOf (table : TableParts) (image : List ℕ) : Type 0 where
   pub rows : AreSteps image table.rows

@@ -1,4 +1,4 @@
--- Candidates, finds and symbols of the code, as the definitions have them.
+-- Candidates, results and symbols in the code, as the definitions have them.
 use Rattle.std.specs.Prelude.{ℕ, List, ◌≡◌, ◌==◌}
 use Rattle.std.specs.List.{before_first}
 use Rattle.macho_image.specs.declared.symtab_command.Symtab.{Symtab}
@@ -13,11 +13,11 @@ use Rattle.macho_symbols.specs.declared.found.Found.{Found}
 abbrev pub name_view : Name → List ℕ
 name_view n = before_first (λ b. b == 0) n.from.now
 
--- what counts of a candidate of the code, with its name out of the string table
+-- the parts of a candidate in the code that searches use, with its name from the string table
 unfoldable pub tuple_of : List ℕ → Candidate → Tuple
 tuple_of strings c = record { value = c.value; external = c.external; name = name_of strings c.n_strx; sect = c.sect }
 
--- what was found, without where its names lie
+-- a result, without the addresses of its names in memory
 abbrev pub found_view : Found → FoundRecord
 found_view f = record {
   name = f.name.now;

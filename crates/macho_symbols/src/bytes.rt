@@ -7,29 +7,29 @@ ghost use Rattle.macho_symbols.specs.InnerRanks.{IsHead};
 use macho_image::before_nul;
 use memory::Heap;
 
-/// What stands from a place on; nothing past the end.
+/// The bytes from an offset on; none past the end.
 pub(crate) fn from_place(strings: &[u8], place: usize) -> &[u8]
     ensures { result.now ≡ drop place strings.now }
 {
     strings.split_at(strings.len().min(place)).1
 }
 
-/// So many first bytes, or as many of them as there are.
-pub(crate) fn first(bytes: &[u8], size: usize) -> &[u8]
+/// The first `size` bytes, or all if there are fewer.
+pub(crate) fn first_bytes(bytes: &[u8], size: usize) -> &[u8]
     ensures { result.now ≡ take size bytes.now }
 {
     bytes.split_at(bytes.len().min(size)).0
 }
 
-/// So many first bytes of the name from a place on, or as many as it has.
+/// The first `size` bytes of the name at an offset, or the whole name if it is shorter.
 #[tactic(auto, using(crate::proofs::SuffixLemmas::before_take))]
 pub(crate) fn name_part(strings: &[u8], place: usize, size: usize) -> &[u8]
     ensures { result.now ≡ take size (name_at strings.now place) }
 {
-    before_nul(first(from_place(strings, place), size))
+    before_nul(first_bytes(from_place(strings, place), size))
 }
 
-/// The byte at a place, or 0 past the end.
+/// The byte at an offset, or 0 past the end.
 fn byte_at(bytes: &[u8], place: usize) -> u32
     ensures is { result ≡ slice_index bytes.now place }
     ensures small { result < 2 ^ 8 }
@@ -40,7 +40,7 @@ fn byte_at(bytes: &[u8], place: usize) -> u32
     0
 }
 
-/// The number that the first four bytes make.
+/// The number in the first four bytes, big-endian; missing bytes are 0.
 pub(crate) fn head_of(bytes: &[u8]) -> u32
     ensures { IsHead bytes.now result }
 {
@@ -49,7 +49,7 @@ pub(crate) fn head_of(bytes: &[u8]) -> u32
     16_777_216 * first + 65_536 * second + 256 * third + fourth
 }
 
-/// A slot of so many that equal bytes have in common.
+/// The index of the slot for these bytes, below `slots`. Equal bytes have the same slot.
 fn slot_of(bytes: &[u8], slots: usize) -> usize
     requires { 0 < slots }
     ensures { result < slots }
@@ -72,7 +72,7 @@ fn slot_of(bytes: &[u8], slots: usize) -> usize
     (sum.wrapping_mul(0x9e37_79b9_7f4a_7c15) >> 32) as usize % slots
 }
 
-/// The bytes that are in the slot of some, if these are equal to them; else they themselves, which are in it then.
+/// The bytes in the slot for `bytes`, if they are equal to them; else `bytes`, which are stored in the slot.
 pub(crate) fn shared<'a>(slots: &mut Vec<&'a [u8], Heap>, bytes: &'a [u8]) -> &'a [u8]
     requires { 0 < length slots.old.items }
     ensures same { result.now ≡ bytes.now }

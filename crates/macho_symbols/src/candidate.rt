@@ -1,4 +1,4 @@
-//! The entries that can be found, and the order in which they are.
+//! Candidates, the entries that a search can find, and their order.
 
 ghost use Rattle.std.specs.Prelude.{◌≡◌};
 ghost use Rattle.std.specs.Ordering.{ordering_then, nat_cmp, bool_cmp};
@@ -9,7 +9,7 @@ ghost use Rattle.macho_symbols.specs.InnerCandidates.{first_of, is_before};
 use crate::compared::ComparedNames;
 use std::cmp::Ordering;
 
-/// What counts of an entry that can be found. Its name is `n_strx`: the place in the string table.
+/// The parts of a candidate that searches use. Its name is `n_strx`: the offset in the string table.
 #[derive(Clone, Copy)]
 pub(crate) struct Candidate {
     pub(crate) value: u64,
@@ -19,7 +19,7 @@ pub(crate) struct Candidate {
 }
 
 impl Candidate {
-    /// Compares the names of two candidates. A name that both have is not read.
+    /// Compares the names of two candidates. If both have the same offset, no name is read.
     fn compare_names(&self, other: &Candidate, names: &ComparedNames<'_>) -> Ordering
         ensures { result ≡ slice_cmp nat_cmp (name_of names.now self.now.n_strx)
             (name_of names.now other.now.n_strx) }
@@ -30,7 +30,7 @@ impl Candidate {
         names.compare(self.n_strx, other.n_strx)
     }
 
-    /// Compares the values and the kinds.
+    /// Compares the values, the greater first, and then external before local.
     fn compare_heads(&self, other: &Candidate) -> Ordering
         ensures { result ≡ ordering_then (nat_cmp other.now.value self.now.value)
             (bool_cmp other.now.external self.now.external) }
@@ -41,7 +41,7 @@ impl Candidate {
             .then(other.external.cmp(&self.external))
     }
 
-    /// Whether it comes before another one. Names are read only where all that counts more ties.
+    /// Whether it comes before another one. Names are read only if the values and kinds are equal.
     #[tactic(auto, unfolding(crate::specs::Views::tuple_of))]
     fn is_before(&self, other: &Candidate, names: &ComparedNames<'_>) -> bool
         ensures { result ≡ is_before names.now self.now other.now }
@@ -56,7 +56,7 @@ impl Candidate {
             .is_lt()
     }
 
-    /// The first of two, either of which there may not be.
+    /// The first of two candidates, either of which may be missing.
     pub(crate) fn first_of(
         best: Option<Candidate>,
         next: Option<Candidate>,

@@ -1,4 +1,4 @@
-//! The names of candidates as they are compared: piece by piece, or by their order among the strings.
+//! The comparison of candidates' names: piece by piece, or by their order among the strings.
 
 ghost use Rattle.std.specs.Prelude.{◌≡◌, ◌<◌, ◌^◌, IfOk, length};
 ghost use Rattle.std.specs.Ordering.{nat_cmp};
@@ -12,7 +12,7 @@ use memory::{Heap, NoMemory};
 use std::cmp::Ordering;
 use std::marker::Model;
 
-/// A string table, with the order of its names where they are compared by this. A contract sees the table.
+/// A string table, and the order of its names if they are compared by it. A contract sees the table.
 #[derive(Drop)]
 pub(crate) struct ComparedNames<'a> {
     strings: &'a [u8],
@@ -29,10 +29,9 @@ impl<'a> Model for ComparedNames<'a> {
     ghost invariant = { λ n. IfSome n.order (λ o. o ≡ n.strings.now) };
 }
 
-/// Whether the names of candidates that have the value of the one before them, and a name at another place, have more
-/// bytes than the strings, as only names that overlap can. It reads no more than twice the bytes of the strings. No
-/// contract says which it is: names compare alike by their order and piece by piece, and the one or the other is
-/// quicker.
+/// Whether the names of the candidates whose value is that of the candidate before them, but whose `n_strx` is not,
+/// have more bytes than the strings. Only names that overlap can. It reads at most twice the bytes of the strings. No
+/// contract states the result: names compare the same by their order and piece by piece, and only the time differs.
 fn is_long(strings: &[u8], candidates: &[Candidate]) -> bool {
     let mut left = strings.len();
     'candidates: for index in 1..candidates.len() {
@@ -50,7 +49,7 @@ fn is_long(strings: &[u8], candidates: &[Candidate]) -> bool {
 }
 
 impl<'a> ComparedNames<'a> {
-    /// Those of a string table, compared piece by piece.
+    /// The names of a string table, compared piece by piece.
     pub(crate) fn by_pieces(strings: &'a [u8]) -> ComparedNames<'a>
         ensures { result ≡ strings.now }
     {
@@ -60,7 +59,7 @@ impl<'a> ComparedNames<'a> {
         }
     }
 
-    /// Those of candidates by value.
+    /// The names of candidates, which are sorted by value. The error is `NoMemory`.
     pub(crate) fn new(
         heap: Heap,
         strings: &'a [u8],
@@ -76,7 +75,7 @@ impl<'a> ComparedNames<'a> {
         Ok(ComparedNames { strings, order })
     }
 
-    /// Compares the names from two places of the string table in byte order.
+    /// Compares the names at two offsets of the string table in byte order.
     pub(crate) fn compare(&self, n_strx: u32, other: u32) -> Ordering
         ensures { result ≡ slice_cmp nat_cmp (name_of self.now n_strx) (name_of self.now other) }
     {

@@ -1,9 +1,9 @@
-//! The entries of a symbol table, one after another.
+//! The entries of a symbol table, as an iterator.
 
 use crate::nlist::NLIST_64_LEN;
 use std::marker::Model;
 
-/// The entries that are left. A contract sees the list of them.
+/// The entries that are left. A contract sees their list.
 #[derive(Drop)]
 pub(crate) struct Entries<'a> {
     rest: &'a [u8],
@@ -25,7 +25,7 @@ impl<'a> Entries<'a> {
     ghost use Rattle.std.specs.Prelude.{◌≡◌, ◌≤◌, ◌*◌, length};
     ghost use Rattle.macho_symbols.specs.Symbols.{entries};
 
-    /// So many, from the first of the bytes on.
+    /// The first `count` entries of the bytes.
     pub(crate) fn new(bytes: &'a [u8], count: u32) -> Entries<'a>
         requires { 16 * count ≤ length bytes.now }
         ensures { result ≡ entries count bytes.now }

@@ -1,4 +1,4 @@
-/// Why the symbols of an image cannot be read; where both apply, it is the first.
+/// Why the symbols of an image cannot be read. If both faults apply, the first is reported.
 #[derive(Clone, Copy, Debug, PartialEq, Eq)]
 pub enum SymbolFault {
     /// There are entries, and the `nsyms` entries of 16 bytes from `symoff` on pass the end of the image.

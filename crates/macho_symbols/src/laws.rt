@@ -1,5 +1,5 @@
-//! What the definitions say of each other, for every list of bytes. Each law is the contract of a function
-//! that does nothing.
+//! Relations between the definitions, for every list of bytes. Each law is the contract of a function that does
+//! nothing.
 
 ghost use Rattle.std.specs.Prelude.{◌≡◌, ◌<◌, ◌⊎◌, ℕ, List, Option, Some, true, Contains, length};
 ghost use Rattle.std.specs.Cmp.{IsTotalOrder};
@@ -16,7 +16,7 @@ pub fn one_symbol_fault()
     ensures none { (image : List ℕ) (f : SymbolFault) → HasSymbols image → IsSymbolFault image f → ⊥ }
 {}
 
-/// The candidates are the entries of the symbol table that are one.
+/// The candidates are the entries of the symbol table that meet the definition.
 pub fn candidates_are_entries()
     ensures from { (image : List ℕ) (c : Tuple) → Contains (candidates image) c →
         (i : ℕ) × (i < (table_of image).nsyms) × (candidate_in image (entry_of image i) ≡ Some c) }
@@ -24,15 +24,14 @@ pub fn candidates_are_entries()
         candidate_in image (entry_of image i) ≡ Some c → Contains (candidates image) c }
 {}
 
-/// A candidate lies in its section and has a name.
+/// A candidate is in its section and has a name.
 pub fn candidates_are_named()
     ensures inside { (image : List ℕ) (c : Tuple) → Contains (candidates image) c
         → is_in_section image c.sect c.value ≡ true }
     ensures name { (image : List ℕ) (c : Tuple) → Contains (candidates image) c → 0 < length c.name }
 {}
 
-/// The order in which candidates come before another is total, and only what is the same comes neither before
-/// nor after.
+/// The order of candidates is total, and candidates that compare as equal are the same.
 pub fn total_order()
     ensures total { IsTotalOrder tuple_cmp }
     ensures exact { (c d : Tuple) → tuple_cmp c d ≡ Equal → c ≡ d }

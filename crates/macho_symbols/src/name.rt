@@ -10,7 +10,7 @@ ghost use Rattle.macho_symbols.specs.Views.{name_view};
 use macho_image::{Symtab, before_nul};
 use std::cmp::Ordering;
 
-/// The string table of an image with this LC_SYMTAB, or as much of it as there is.
+/// The string table of an image with this LC_SYMTAB, up to the end of the image.
 pub(crate) fn strings_in<'b>(image: &'b [u8], symtab: &Symtab) -> &'b [u8]
     ensures is { result.now ≡ take symtab.now.strsize (drop symtab.now.stroff image.now) }
     ensures few { length result.now < 2 ^ 32 }
@@ -19,14 +19,14 @@ pub(crate) fn strings_in<'b>(image: &'b [u8], symtab: &Symtab) -> &'b [u8]
     from.split_at(from.len().min(symtab.strsize as usize)).0
 }
 
-/// How many bytes of two names are compared first.
+/// The number of bytes of two names that are compared first.
 const FIRST_PIECE: usize = 64;
 
-/// How many are compared at once at most, so that a piece that was compared is still in the cache where its
-/// NUL is searched for.
+/// The largest number of bytes that are compared at once, so that a piece is still in the cache when it is searched for
+/// a NUL.
 const LARGEST_PIECE: usize = 4096;
 
-/// The first bytes, so many or all that there are, and those after them.
+/// The first `size` bytes, or all if there are fewer, and the bytes after them.
 fn split_piece(bytes: &[u8], size: usize) -> (&[u8], &[u8])
     ensures piece { result.0.now ≡ take size bytes.now }
     ensures rest { result.1.now ≡ drop size bytes.now }
@@ -34,8 +34,8 @@ fn split_piece(bytes: &[u8], size: usize) -> (&[u8], &[u8])
     bytes.split_at(bytes.len().min(size))
 }
 
-/// Compares bytes, each up to its first NUL, piece by piece: it reads no more than some times the bytes that they
-/// share.
+/// Compares bytes, each up to its first NUL, piece by piece. It reads only a few times as many bytes as they have in
+/// common.
 fn compare_to_nul(name: &[u8], other: &[u8]) -> Ordering
     ensures { result ≡ slice_cmp nat_cmp (before_first (λ b. b == 0) name.now) (before_first (λ b. b == 0) other.now) }
 {
@@ -56,15 +56,15 @@ fn compare_to_nul(name: &[u8], other: &[u8]) -> Ordering
     }
 }
 
-/// A name: the string table from its first byte on. It ends before the first NUL, or with the table, and
-/// its end is searched for only where all of it is wanted.
+/// A name: the string table from its first byte on. It ends before the first NUL or with the table. Its end is searched
+/// for only when the whole name is needed.
 #[derive(Clone, Copy)]
 pub struct Name<'a> {
     from: &'a [u8],
 }
 
 impl<'a> Name<'a> {
-    /// The name from a place of the string table.
+    /// The name at an offset of the string table.
     pub fn at(strings: &'a [u8], index: u32) -> Name<'a>
         ensures { name_view result ≡ name_of strings.now index }
     {
@@ -77,14 +77,14 @@ impl<'a> Name<'a> {
         }
     }
 
-    /// Whether it has no byte. It looks at the first alone.
+    /// Whether the name is empty. It reads the first byte alone.
     pub fn is_empty(&self) -> bool
         ensures { not result ≡ nat_lt 0 (length (name_view self.now)) }
     {
         self.from.is_empty() || self.from[0] == 0
     }
 
-    /// All its bytes.
+    /// All bytes of the name.
     pub fn bytes(&self) -> &'a [u8]
         ensures { result.now ≡ name_view self.now }
     {
@@ -98,7 +98,7 @@ impl<'a> Name<'a> {
         compare_to_nul(self.from, other.from)
     }
 
-    /// Whether these are its bytes. It reads no more than these, and one byte after them.
+    /// Whether the name is these bytes. It reads at most these bytes, and one byte after them.
     pub(crate) fn is(&self, bytes: &[u8]) -> bool
         ensures { result ≡ pointwise nat_eq (name_view self.now) bytes.now }
     {

@@ -13,7 +13,7 @@ use crate::scan::Scan;
 use crate::symbols::Symbols;
 use std::marker::Model;
 
-/// The symbols of a name that are left, in the order of the symbol table. A contract sees the list of them.
+/// The remaining symbols with a name, in the order of the symbol table. A contract sees their list.
 #[derive(Drop)]
 pub struct Named<'a, 'n> {
     scan: Scan<'a>,
@@ -36,8 +36,8 @@ impl<'a, 'n> Model for Named<'a, 'n> {
 }
 
 impl<'a> Symbols<'a> {
-    /// The symbols of a name, with offset 0, in the order of the table: one for each entry that can be found,
-    /// also where several are alike. The name has no NUL at its end.
+    /// The symbols with a name, with offset 0, in the order of the symbol table: one for each candidate, even if
+    /// several are equal. The name that is searched for has no NUL at its end.
     #[tactic(auto, unfolding(crate::specs::Symbols::candidates))]
     pub fn named<'n>(&self, name: &'n [u8]) -> Named<'a, 'n>
         ensures all { result ≡ named self.now name.now }
@@ -52,7 +52,7 @@ impl<'a> Symbols<'a> {
 }
 
 impl<'a> Scan<'a> {
-    /// What is found of an entry for a name, if it has that.
+    /// The result for an entry in a search by name; `None` if the entry has another name or is no candidate.
     fn found_by_name(&self, name: &[u8], entry: &[u8]) -> Option<Found<'a>>
         requires { 16 ≤ length entry.now }
         ensures { option_to_list (option_map found_view result)

@@ -15,7 +15,8 @@ use crate::scan::Scan;
 use crate::symbols::Symbols;
 
 impl<'a> Scan<'a> {
-    /// Whether a candidate can stand for an address.
+    /// Whether a candidate is eligible for an address: it is not above the address, and its section contains the
+    /// address.
     #[tactic(auto, unfolding(crate::specs::Nearest::is_eligible, crate::specs::Views::tuple_of))]
     fn is_eligible(&self, candidate: &Candidate, address: u64) -> bool
         ensures { result ≡ is_eligible self.now address (tuple_of (strings_of self.now) candidate.now) }
@@ -23,7 +24,7 @@ impl<'a> Scan<'a> {
         candidate.value <= address && self.is_in_section(candidate.sect, address)
     }
 
-    /// The candidate that the entry of an index is, if it can stand for an address.
+    /// The candidate at an index, if it is eligible for an address.
     fn eligible_at(&self, index: usize, address: u64) -> Option<Candidate>
         ensures { result ≡ eligible_at self.now address index }
     {
@@ -33,7 +34,7 @@ impl<'a> Scan<'a> {
         }
     }
 
-    /// The first of the candidates that can stand for an address.
+    /// The first of the candidates that are eligible for an address.
     fn first_eligible(&self, address: u64) -> Option<Candidate>
         ensures { IsLeastOrNone (strings_of self.now) (IsAt (eligible_at self.now address)) result }
     {
@@ -47,10 +48,10 @@ impl<'a> Scan<'a> {
 }
 
 impl<'a> Symbols<'a> {
-    /// The symbol that an address belongs to: of those in whose section it lies and that are not above it,
-    /// the one with the greatest address; of several such an external one, then the one with the least
-    /// name, then the one with the least section number. It looks at every entry once, and takes no memory; names that
-    /// overlap cost it what they share each time, which `AddressTable` does not.
+    /// The nearest symbol of an address. Of the symbols that are not above the address and whose section contains it,
+    /// it is the one with the greatest address; of several an external one, then the one with the least name, then the
+    /// one with the least section number. The scan reads every entry once, and allocates no memory. The common bytes of
+    /// names that overlap are read again for each of them; `AddressTable` avoids that.
     pub fn nearest_plain(&self, address: u64) -> Option<Found<'a>>
         ensures { FindsNearest self.now address (option_map found_view result) }
     {

@@ -9,10 +9,10 @@ use byteorder::{ByteOrder, LittleEndian};
 /// The size of `nlist_64` in bytes.
 pub(crate) const NLIST_64_LEN: usize = 16;
 
-/// Bits of `n_type`: any of them is set in an entry for a debugger.
+/// Bits of `n_type`: at least one of them is set in an entry for a debugger.
 pub(crate) const N_STAB: u8 = 0xe0;
 
-/// Bits of `n_type`: where the symbol is defined.
+/// Bits of `n_type`: the kind of the symbol's definition.
 pub(crate) const N_TYPE: u8 = 0x0e;
 
 /// A bit of `n_type`: the symbol is external.
@@ -24,10 +24,10 @@ pub(crate) const N_SECT: u8 = 0xe;
 /// A value of `n_sect`: the symbol is in no section.
 pub(crate) const NO_SECT: u8 = 0;
 
-/// The greatest value of `n_sect`. The sections that a symbol can name are 1 to this.
+/// The greatest value of `n_sect`. A symbol can name the sections 1 to this.
 pub(crate) const MAX_SECT: u8 = 255;
 
-/// `n_strx`: where the name begins in the string table.
+/// `n_strx`: the offset of the name in the string table.
 #[tactic(auto, unfolding(macho_image::specs::Layout::u32_le_at))]
 pub(crate) fn n_strx(entry: &[u8]) -> u32
     requires { 16 ≤ length entry.now }

@@ -1,4 +1,4 @@
-//! Where the NULs of a string table stand, block by block, so that no name has to be searched to its end.
+//! The offsets of NULs in a string table, block by block, so that no name has to be searched to its end.
 
 ghost use Rattle.std.specs.Prelude.{◌≡◌, ◌≤◌, ℕ, IfOk, length};
 ghost use Rattle.macho_symbols.specs.Symbols.{name_of};
@@ -7,11 +7,11 @@ ghost use Rattle.macho_symbols.specs.NulPlaces.{nul_from, AreNulPlaces};
 use macho_image::before_nul;
 use memory::{Heap, NoMemory};
 
-/// How many bytes of the string table a block has.
+/// The size of a block of the string table in bytes.
 const BLOCK_SIZE: usize = 4096;
 
-/// The place of the first NUL at or after a place, where that of an earlier place is known: what lies between
-/// the two is not looked at again.
+/// The offset of the first NUL at or after an offset, if that for an earlier offset is known: the bytes between the two
+/// are not read again.
 fn next_nul(strings: &[u8], index: usize, known: usize) -> usize
     requires within { index ≤ length strings.now }
     requires known { (earlier : ℕ) × (earlier ≤ index) × (known ≡ nul_from strings.now earlier) }
@@ -23,8 +23,7 @@ fn next_nul(strings: &[u8], index: usize, known: usize) -> usize
     index + before_nul(strings.split_at(index).1).len()
 }
 
-/// The place of the first NUL at or after the beginning of each block of a string table. It reads each byte
-/// once.
+/// The offset of the first NUL at or after the beginning of each block of a string table. It reads each byte once.
 pub(crate) fn collect_nul_places(heap: Heap, strings: &[u8]) -> Result<Vec<usize, Heap>, NoMemory>
     ensures { IfOk result (λ places. AreNulPlaces strings.now places.items) }
 {
@@ -39,7 +38,7 @@ pub(crate) fn collect_nul_places(heap: Heap, strings: &[u8]) -> Result<Vec<usize
     Ok(places)
 }
 
-/// The place of the first NUL at or after a place. It looks at no byte after that place's block.
+/// The offset of the first NUL at or after an offset. It reads no byte after that offset's block.
 fn nul_from(strings: &[u8], nul_places: &[usize], index: usize) -> usize
     requires places { AreNulPlaces strings.now nul_places.now }
     requires within { index ≤ length strings.now }
@@ -54,7 +53,7 @@ fn nul_from(strings: &[u8], nul_places: &[usize], index: usize) -> usize
     nul_places[index / BLOCK_SIZE + 1]
 }
 
-/// The name from a place of the string table.
+/// The name at an offset of the string table.
 pub(crate) fn name_from<'b>(strings: &'b [u8], nul_places: &[usize], index: u32) -> &'b [u8]
     requires { AreNulPlaces strings.now nul_places.now }
     ensures { result.now ≡ name_of strings.now index }

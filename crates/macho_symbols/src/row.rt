@@ -1,21 +1,21 @@
-//! The rows of a table, and which of them an address belongs to.
+//! The rows of a table, and the row for an address.
 
 ghost use Rattle.macho_symbols.specs.Rows.{AreRising, IsRowFor};
 
-/// From an address on, up to that of the next row, this symbol is the nearest one.
+/// The nearest symbol of the addresses from `start` on, up to the start of the next row.
 #[derive(Clone, Copy, Debug, PartialEq, Eq)]
 pub struct Row {
     /// The first address.
     pub start: u64,
-    /// The `n_value` of the symbol; 0 where no symbol is nearest.
+    /// The `n_value` of the symbol; 0 if there is no nearest symbol.
     pub value: u64,
-    /// The offset of its name in the string table: the least `n_strx` of the entries that are this symbol.
+    /// The offset of its name in the string table: the least `n_strx` of the entries for this symbol.
     pub n_strx: u32,
-    /// The number of its section, from 1 on; 0 where no symbol is nearest.
+    /// The number of its section, from 1 on; 0 if there is no nearest symbol.
     pub sect: u8,
 }
 
-/// The row that an address belongs to.
+/// The row for an address: the last that begins at or below it.
 pub(crate) fn row_for(rows: &[Row], address: u64) -> Option<Row>
     requires { AreRising rows.now }
     ensures { IsRowFor rows.now address result }

@@ -1,4 +1,4 @@
-//! What a scan over the entries reads: the symbols, and the sections that their numbers name.
+//! The symbols that a scan over the entries reads, and the sections that they name by number.
 
 ghost use Rattle.std.specs.Prelude.{◌≡◌, ◌<◌, ◌≤◌, ◌^◌, [], IfOk, IfSome, length};
 ghost use Rattle.std.specs.Option.{option_map, option_map_or};
@@ -19,8 +19,8 @@ use macho_image::Section;
 use memory::{Heap, NoMemory};
 use std::marker::Model;
 
-/// The symbols of an image beside its sections by number, which are collected once where a scan begins. A
-/// contract sees it as the bytes of the image.
+/// The symbols of an image with its sections by number, which are collected once at the beginning of a scan. A contract
+/// sees the bytes of the image.
 #[derive(Drop)]
 pub(crate) struct Scan<'a> {
     pub(crate) symbols: Symbols<'a>,
@@ -39,7 +39,7 @@ impl<'a> Model for Scan<'a> {
 }
 
 impl<'a> Scan<'a> {
-    /// Of these symbols.
+    /// A scan over these symbols.
     pub(crate) fn new(symbols: &Symbols<'a>) -> Scan<'a>
         ensures { result ≡ symbols.now }
     {
@@ -49,14 +49,14 @@ impl<'a> Scan<'a> {
         }
     }
 
-    /// The section of a number.
+    /// The section with a number.
     pub(crate) fn section(&self, number: u8) -> Option<Section<'a>>
         ensures { option_map section_view result ≡ section_of self.now number }
     {
         self.sections[number as usize]
     }
 
-    /// Whether an address lies in the section of a number.
+    /// Whether an address is in the section with a number.
     #[tactic(auto, unfolding(crate::specs::Symbols::is_in_section))]
     pub(crate) fn is_in_section(&self, number: u8, address: u64) -> bool
         ensures { result ≡ is_in_section self.now number address }
@@ -95,7 +95,7 @@ impl<'a> Scan<'a> {
         self.is_placed(entry) && !self.name(entry).is_empty()
     }
 
-    /// The candidate that an entry is, if it is one.
+    /// The candidate of an entry; `None` if the entry is none.
     #[tactic(auto, unfolding(crate::specs::InnerCandidates::numbered_in, crate::specs::Views::tuple_of, crate::specs::Symbols::candidate_in, crate::specs::Symbols::tuple_in, crate::specs::Symbols::name_in))]
     pub(crate) fn candidate(&self, entry: &[u8]) -> Option<Candidate>
         requires { 16 ≤ length entry.now }
@@ -114,7 +114,7 @@ impl<'a> Scan<'a> {
         })
     }
 
-    /// The candidate that the entry of an index is, if there is such an entry and it is one.
+    /// The candidate at an index; `None` if there is no such entry, or it is no candidate.
     pub(crate) fn candidate_at(&self, index: usize) -> Option<Candidate>
         ensures numbered { result ≡ numbered_at self.now index }
         ensures small { IfSome result (λ candidate. candidate.sect < 2 ^ 8) }
@@ -135,7 +135,7 @@ impl<'a> Scan<'a> {
         Ok(candidates)
     }
 
-    /// The names of the segment and of the section of a number, empty where there is no such section.
+    /// The names of the segment and of the section with a number; empty if there is no such section.
     fn section_names(&self, number: u8) -> (&'a [u8], &'a [u8])
         ensures segment { result.0.now ≡ option_map_or (λ s. s.segment) (section_of self.now number) [] }
         ensures section { result.1.now ≡ option_map_or (λ s. s.section) (section_of self.now number) [] }
@@ -146,7 +146,7 @@ impl<'a> Scan<'a> {
         }
     }
 
-    /// A candidate as what is found for an address.
+    /// The result for a candidate in a search by address.
     #[tactic(auto, unfolding(crate::specs::Found::found_of, crate::specs::Views::tuple_of))]
     pub(crate) fn found(&self, address: u64, candidate: &Candidate) -> Found<'a>
         requires { candidate.now.value ≤ address }

@@ -9,10 +9,10 @@ use crate::nlist::MAX_SECT;
 use macho_image::{Image, Section};
 use memory::{Heap, NoMemory};
 
-/// How many numbers `n_sect` has, NO_SECT among them.
+/// The number of values of `n_sect`, with NO_SECT.
 pub(crate) const N_SECT_COUNT: usize = MAX_SECT as usize + 1;
 
-/// The sections of an image by number. One walk over the load commands is enough for all entries.
+/// The sections of an image by number, from one walk over the load commands.
 pub(crate) fn sections_by_number<'a>(image: &Image<'a>) -> [Option<Section<'a>>; N_SECT_COUNT]
     ensures { AreByNumber image.now result }
 {
@@ -24,7 +24,7 @@ pub(crate) fn sections_by_number<'a>(image: &Image<'a>) -> [Option<Section<'a>>;
     by_number
 }
 
-/// The sections of an image that a symbol can name, from that of the number 1 on.
+/// The sections of an image that a symbol can name, from number 1 on.
 pub fn collect_sections<'a>(
     heap: Heap,
     image: &Image<'a>,
@@ -38,7 +38,7 @@ pub fn collect_sections<'a>(
     Ok(all)
 }
 
-/// Whether an address lies in a section, whose end may pass 2^64.
+/// Whether an address is in a section, whose end may pass 2^64.
 pub(crate) fn is_inside(section: &Section<'_>, address: u64) -> bool
     ensures { result ≡ is_inside address (section_view section.now) }
 {

@@ -1,4 +1,4 @@
-//! Where the sections of an image stand in it, by number.
+//! The offsets of the sections in an image, by number.
 
 ghost use Rattle.std.specs.Prelude.{◌≡◌, IfOk, []};
 ghost use Rattle.std.specs.Option.{option_map_or};
@@ -9,7 +9,7 @@ use crate::nlist::{MAX_SECT, NO_SECT};
 use macho_image::{Image, Section};
 use memory::{Heap, NoMemory};
 
-/// The names of the segment and of the section of a number, empty where there is no such section.
+/// The names of the segment and of the section with a number; empty if there is no such section.
 pub(crate) fn section_names<'b>(places: &[u32], number: u8, image: &'b [u8]) -> (&'b [u8], &'b [u8])
     requires { ArePlaces image.now places.now }
     ensures segment { result.0.now ≡ option_map_or (λ s. s.segment) (section_of image.now number) [] }
@@ -25,7 +25,7 @@ pub(crate) fn section_names<'b>(places: &[u32], number: u8, image: &'b [u8]) -> 
     (section.segment, section.section)
 }
 
-/// Where the `section_64` of each section of an image stands that a symbol can name.
+/// The offset of the `section_64` of each section of an image that a symbol can name.
 pub(crate) fn collect_places(heap: Heap, image: &Image<'_>) -> Result<Vec<u32, Heap>, NoMemory>
     ensures { IfOk result (λ places. ArePlaces image.now places.items) }
 {

@@ -21,7 +21,7 @@ use macho_image::Section;
 use memory::{Heap, NoMemory};
 
 impl Row {
-    /// The row of a turn, by the nearest candidate there.
+    /// The row of a turn, with the nearest candidate there.
     fn saying(start: u64, nearest: Option<Candidate>) -> Row
         ensures { result ≡ row_saying start nearest }
     {
@@ -42,8 +42,8 @@ impl Row {
     }
 }
 
-/// Puts a candidate among the first ones of their sections.
-fn note(firsts: &mut [Option<Candidate>], candidate: Candidate, names: &ComparedNames<'_>)
+/// Adds a candidate to the first candidates of the sections.
+fn note_candidate(firsts: &mut [Option<Candidate>], candidate: Candidate, names: &ComparedNames<'_>)
     requires some { 0 < candidate.sect }
     requires within { candidate.sect ≤ length firsts.old }
     ensures { firsts.new ≡ slice_set firsts.old (candidate.sect - 1)
@@ -53,7 +53,7 @@ fn note(firsts: &mut [Option<Candidate>], candidate: Candidate, names: &Compared
     firsts[index] = Candidate::first_of(firsts[index], Some(candidate), names);
 }
 
-/// The candidate of an index, if there is one and it is not above an address.
+/// The candidate at an index; `None` if there is none, or it is above an address.
 fn not_above(candidates: &[Candidate], index: usize, address: u64) -> Option<Candidate>
     ensures { MatchOption result ((c : Candidate) → slice_get candidates.now index ≡ Some c → address < c.value)
         (λ c. (slice_get candidates.now index ≡ Some c) × (c.value ≤ address)) }
@@ -65,8 +65,8 @@ fn not_above(candidates: &[Candidate], index: usize, address: u64) -> Option<Can
     Some(candidate)
 }
 
-/// Notes the candidates from an index on that are not above an address. It says how many were noted, and one at the
-/// address, the first one, if there is any.
+/// Notes the candidates from an index on that are not above an address. It returns the index after them, and the first
+/// of those at the address itself, if there is any.
 fn note_up_to(
     firsts: &mut [Option<Candidate>],
     candidates: &[Candidate],
@@ -87,7 +87,7 @@ fn note_up_to(
     let mut index = from;
     let mut best = None;
     'noting: while let Some(candidate) = not_above(candidates, index, address) {
-        note(firsts, candidate, names);
+        note_candidate(firsts, candidate, names);
         if candidate.value == address {
             best = Candidate::first_of(best, Some(candidate), names);
         }
@@ -96,7 +96,7 @@ fn note_up_to(
     (index, best)
 }
 
-/// The first of one candidate, if there is one, and those of the sections that an address lies in.
+/// The first of `best`, if there is one, and of the first candidates of the sections that contain an address.
 fn first_at(
     sections: &[Section<'_>],
     firsts: &[Option<Candidate>],
@@ -120,7 +120,7 @@ fn first_at(
     best
 }
 
-/// The rows of turns.
+/// The rows of these turns.
 fn rows_of(
     heap: Heap,
     sections: &[Section<'_>],
@@ -147,9 +147,9 @@ fn rows_of(
     Ok(rows)
 }
 
-/// The rows of an image: one at each turn, which says the nearest candidate there. It takes 24 bytes for each entry
-/// that is a candidate and 24 for each row, or 16 for each turn while these are put in order; where names that are
-/// compared overlap, up to two bytes for each of the strings. `NoMemory` where a growth was refused.
+/// The rows of an image: one at each turn, with the nearest candidate there. It needs 24 bytes for each candidate and
+/// 24 for each row, or 16 for each turn while the turns are sorted; and up to two for each byte of the strings, if
+/// names that are compared overlap. The error is `NoMemory`.
 pub fn steps(heap: Heap, symbols: &Symbols<'_>) -> Result<Vec<Row, Heap>, NoMemory>
     ensures { IfOk result (λ rows. AreSteps symbols.now rows.items) }
 {

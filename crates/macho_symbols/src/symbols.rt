@@ -13,7 +13,7 @@ use crate::nlist::NLIST_64_LEN;
 use macho_image::{Image, Symtab};
 use std::marker::Model;
 
-/// The symbols of an image, which borrow its bytes. A contract sees them as these bytes.
+/// The symbols of an image, which borrow its bytes. A contract sees these bytes.
 #[derive(Drop)]
 pub struct Symbols<'a> {
     pub(crate) image: Image<'a>,
@@ -32,8 +32,8 @@ impl<'a> Model for Symbols<'a> {
 }
 
 impl<'a> Symbols<'a> {
-    /// Reads the symbols of an image, or says what is wrong with its LC_SYMTAB, as `SymbolFault` tells. An
-    /// image without one has no symbols. No entry is looked at, and none is a fault.
+    /// Reads the symbols of an image. The errors are those of `SymbolFault`, for its LC_SYMTAB. An image without an
+    /// LC_SYMTAB has no symbols. No entry is read, so no entry is a fault.
     pub fn read(image: &Image<'a>) -> Result<Symbols<'a>, SymbolFault>
         ensures faulty { IfErr result (λ fault. IsSymbolFault image.now fault) }
         ensures sound { IfOk result (λ _. HasSymbols image.now) }
@@ -51,7 +51,7 @@ impl<'a> Symbols<'a> {
         Ok(Symbols::of_read(image))
     }
 
-    /// The symbols of an image that [`Symbols::read`] has accepted before. Nothing is tested again.
+    /// The symbols of an image that [`Symbols::read`] accepted before. Nothing is tested again.
     pub fn of_read(image: &Image<'a>) -> Symbols<'a>
         requires { HasSymbols image.now }
         ensures { result ≡ image.now }
@@ -62,7 +62,7 @@ impl<'a> Symbols<'a> {
         }
     }
 
-    /// The same symbols once more, of the same borrowed bytes.
+    /// The same symbols again, with the same borrowed bytes.
     pub fn copy(&self) -> Symbols<'a>
         ensures { result ≡ self.now }
     {
@@ -94,14 +94,14 @@ impl<'a> Symbols<'a> {
         Entries::new(self.entry_bytes(), self.table.nsyms)
     }
 
-    /// How many entries there are.
+    /// The number of entries.
     pub(crate) fn count(&self) -> usize
         ensures { result ≡ length (entries_of self.now) }
     {
         self.table.nsyms as usize
     }
 
-    /// The entry of an index, if there is such a one.
+    /// The entry at an index; `None` if there is no such entry.
     pub(crate) fn entry(&self, index: usize) -> Option<&'a [u8]>
         ensures entry { option_map (λ entry. entry.now) result ≡ slice_get (entries_of self.now) index }
         ensures long { IfSome result (λ entry. 16 ≤ length entry.now) }
@@ -123,7 +123,7 @@ impl<'a> Symbols<'a> {
     }
 }
 
-/// Where the tables of an image lie; nowhere, where it has no LC_SYMTAB.
+/// The offsets and sizes of the tables of an image; all 0 if it has no LC_SYMTAB.
 #[tactic(auto, unfolding(crate::specs::Symbols::table_of))]
 fn table_of(image: &Image<'_>) -> Symtab
     ensures { result ≡ table_of image.now }
@@ -136,7 +136,7 @@ fn table_of(image: &Image<'_>) -> Symtab
     })
 }
 
-/// The string table of an image, or as much of it as there is.
+/// The string table of an image, up to the end of the image.
 #[tactic(auto, unfolding(crate::specs::Symbols::strings_of))]
 pub fn strings_of<'a>(image: &Image<'a>) -> &'a [u8]
     ensures is { result.now ≡ strings_of image.now }

@@ -18,9 +18,9 @@ use macho_image::Symtab;
 use memory::{Heap, NoMemory};
 use std::marker::Model;
 
-/// The nearest symbol of each address of an image, step by step, so that an address finds its own by one halving. It
-/// borrows nothing: names are places in the string table. A contract sees its rows, where the sections stand, where the
-/// string table has NULs and the LC_SYMTAB.
+/// The nearest symbol of each address of an image, step by step, so that one binary search finds that of an address. It
+/// borrows nothing: names are offsets in the string table. A contract sees its rows, the offsets of the sections, the
+/// offsets of NULs in the string table, and the LC_SYMTAB.
 #[derive(Drop)]
 pub struct AddressTable {
     rows: Vec<Row, Heap>,
@@ -45,10 +45,9 @@ impl Model for AddressTable {
 impl AddressTable {
     ghost use Rattle.macho_symbols.specs.Table.{IsTableOf};
 
-    /// The table of an image. It has 24 bytes for each address at which candidates or sections begin or end, 4 for each
-    /// section, and 8 for each 4096 of the string table; while it is built, 24 more for each entry that is a candidate,
-    /// and up to two for each byte of the string table, if names that are compared overlap. `NoMemory` where a growth
-    /// was refused.
+    /// The table of an image. It needs 24 bytes for each address at which candidates or sections begin or end, 4 for
+    /// each section, and 8 for each 4096 bytes of the string table; while it is built, 24 more for each candidate, and
+    /// up to two for each byte of the string table, if names that are compared overlap. The error is `NoMemory`.
     pub fn build(heap: Heap, symbols: &Symbols<'_>) -> Result<AddressTable, NoMemory>
         ensures { IfOk result (λ table. IsTableOf table symbols.now) }
     {
@@ -72,7 +71,7 @@ impl AddressTable {
         strings_in(image, &self.symtab)
     }
 
-    /// The symbol that a row says, as what is found for an address.
+    /// The result for an address whose row has a symbol.
     fn found<'b>(&self, address: u64, row: &Row, image: &'b [u8]) -> Found<'b>
         requires table { IsTableOf self.now image.now }
         requires says { SaysNearest image.now address row.now }
@@ -90,7 +89,7 @@ impl AddressTable {
         }
     }
 
-    /// The symbol that an address belongs to, as `Symbols::nearest_plain` tells it, by halving. The slice is
+    /// The nearest symbol of an address, the same as that of `Symbols::nearest_plain`, by binary search. The slice is
     /// the image whose symbols the table was built from; the names are borrowed from it.
     pub fn nearest<'b>(&self, address: u64, slice: &'b [u8]) -> Option<Found<'b>>
         requires { IsTableOf self.now slice.now }

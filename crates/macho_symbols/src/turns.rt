@@ -19,7 +19,7 @@ fn push_values(turns: &mut Vec<u64, Heap>, candidates: &[Candidate]) -> Result<(
     Ok(())
 }
 
-/// Adds where a section begins, and where it ends, if that is an address.
+/// Adds the first address of a section, and its end, if that is an address.
 fn push_section(turns: &mut Vec<u64, Heap>, section: &Section<'_>) -> Result<(), NoMemory>
     ensures { OnOk result (turns.new.items ≡ turns.old.items ++ ends_below (section_view section.now)) }
 {
@@ -30,7 +30,7 @@ fn push_section(turns: &mut Vec<u64, Heap>, section: &Section<'_>) -> Result<(),
     Ok(())
 }
 
-/// Adds where sections begin and end.
+/// Adds the first addresses and the ends of sections.
 fn push_sections(turns: &mut Vec<u64, Heap>, sections: &[Section<'_>]) -> Result<(), NoMemory>
     ensures { OnOk result (turns.new.items
         ≡ turns.old.items ++ flat_map (λ s. ends_below (section_view s)) sections.now) }
@@ -53,7 +53,8 @@ pub(crate) fn collect_turns(
     let mut turns = Vec::new(heap);
     push_values(&mut turns, candidates)?;
     push_sections(&mut turns, sections)?;
-    // Those of candidates ascend, and few of sections come after them: a sort by runs takes time as one pass over them.
+    // The values of candidates ascend, and only a few addresses of sections come after them: a sort by runs needs
+    // little more time than one pass over them.
     turns.sort()?;
     turns.dedup();
     Ok(turns)

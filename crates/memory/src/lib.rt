@@ -1,5 +1,5 @@
-//! The memory that every collection of the archive keeps: a handle, passed by value and shared
-//! with a second owner, that a test can make run out at the growth of its choice.
+//! The memory of every collection of the archive: a handle, which is passed by value and shared with a second owner. A
+//! test can choose the growth at which the memory runs out.
 #![tactic(auto)]
 
 use std::alloc::{AllocError, Allocator, Global};
@@ -7,32 +7,32 @@ use std::cell::Cell;
 use std::mem::size_of;
 use std::rc::Rc;
 
-/// There was no memory for what was asked.
+/// There was no memory for a request.
 pub use std::alloc::AllocError as NoMemory;
 
-/// The memory that the archive's types keep.
+/// The memory of the archive's types.
 pub type Heap = Memory<Global>;
 
-/// A handle to the memory of `B`: it passes each call on, and refuses every growth once its
-/// growths are used up, and each that asks for more bytes than are left. Handles share what is left.
+/// A handle to the memory of `B`: it passes each call on. It refuses every growth after its number of growths is used
+/// up, and each that asks for more bytes than are left. Handles share these numbers.
 ///
-/// A growth is an allocation, or a block that is made larger, which counts as one growth however
-/// `B` makes it larger, and asks for all bytes that the block has then. A block that is made smaller, or
-/// goes back, is none, and gives no bytes back. The contract of an allocator does not say when it
-/// refuses, so that growths and bytes are counted is shown by cases of `test_acceptance` and by no clause.
+/// A growth is an allocation, or a block that is made larger; that counts as one growth, however `B` makes it larger,
+/// and asks for all bytes of the new block. A block that is made smaller, or is freed, is no growth, and returns no
+/// bytes to the number. The contract of an allocator does not say when it refuses, so cases of `test_acceptance` show
+/// that growths and bytes are counted, and no clause does.
 pub struct Memory<B: Allocator> {
     inner: B,
     left: Granted,
 }
 
-// What is still granted.
+// The growths and bytes that are left.
 #[derive(Clone, Copy)]
 struct Allowance {
     growths: u64,
     bytes: u64,
 }
 
-// The allowance that handles share, or none: nothing is granted.
+// The allowance that handles share, or none: then every growth is refused.
 #[derive(Drop)]
 struct Granted {
     shared: Option<Rc<Cell<Allowance>>>,
@@ -52,14 +52,14 @@ impl Granted {
 }
 
 impl Memory<Global> {
-    /// Memory that refuses only what `global` refuses: it has 2^64 - 1 growths, and as many bytes.
-    /// `NoMemory` where there is no room for their counts.
+    /// Creates memory that refuses only what `global` refuses: it has 2^64 - 1 growths, and as many bytes. Fails with
+    /// `NoMemory` if there is no room for the counts.
     pub fn new(global: Global) -> Result<Heap, NoMemory> {
         Heap::with_growths(global, u64::MAX)
     }
 
-    /// Memory that grants `growths` growths, fewer where `global` refuses one, and then none.
-    /// `NoMemory` where there is no room for the counts.
+    /// Creates memory that grants `growths` growths, fewer if `global` refuses one, and then none. Fails with
+    /// `NoMemory` if there is no room for the counts.
     pub fn with_growths(global: Global, growths: u64) -> Result<Heap, NoMemory> {
         let left = Allowance {
             growths,
@@ -74,7 +74,7 @@ impl Memory<Global> {
         })
     }
 
-    /// A second handle to the same memory, which shares what is left of its growths.
+    /// Creates a second handle to the same memory, which shares the growths that are left.
     pub fn share(&self) -> Heap {
         Memory {
             inner: self.inner,
@@ -84,7 +84,7 @@ impl Memory<Global> {
 }
 
 impl<B: Allocator> Memory<B> {
-    /// Grants `growths` growths from here on, to this handle and its clones, in place of what is left.
+    /// Sets the number of growths that are left to `growths`, for this handle and its clones.
     pub fn grant(&self, growths: u64) {
         let Some(left) = &self.left.shared else {
             return;
@@ -93,7 +93,7 @@ impl<B: Allocator> Memory<B> {
         left.set(Allowance { growths, bytes });
     }
 
-    /// Grants `bytes` bytes from here on, to this handle and its clones, in place of what is left.
+    /// Sets the number of bytes that are left to `bytes`, for this handle and its clones.
     pub fn grant_bytes(&self, bytes: u64) {
         let Some(left) = &self.left.shared else {
             return;
@@ -118,7 +118,7 @@ impl<B: Allocator> Drop for Memory<B> {
     }
 }
 
-// Whether a growth to so many items of a size was left: it is used up now, with its bytes.
+// Uses up a growth to this number of items of a size, with its bytes. Returns whether one was left.
 fn take_growth(left: &Granted, items: usize, size: usize) -> bool {
     let Some(left) = &left.shared else {
         return false;

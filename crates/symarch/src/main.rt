@@ -1,7 +1,7 @@
 //! `symarch`: an archive of Mach-O images and their dSYM companions, kept on several sites.
 //!
-//! `cli_run` reads the command line by `cli_arguments`, carries it out over files of the system, and reports how it
-//! ended.
+//! `cli_run` parses the command line with `cli_arguments`, carries it out over files of the system, and reports the
+//! result.
 #![tactic(auto)]
 
 use byte_device::Writing;
@@ -16,8 +16,8 @@ use std::{env, io};
 const FAILED: u8 = 2;
 
 fn main(rt: HostRuntime) -> ExitCode {
-    // If a standard stream is closed, one of these gets its descriptor. Otherwise OUT would get it, and with it what is
-    // printed.
+    // If a standard stream is closed, one of these files gets its descriptor. Otherwise OUT would get it, and the
+    // printed lines would be written to OUT.
     let _input = File::open(&rt, "/dev/null");
     let _output = File::open(&rt, "/dev/null");
     let _error = File::open(&rt, "/dev/null");
@@ -31,7 +31,7 @@ fn main(rt: HostRuntime) -> ExitCode {
     ExitCode::from(status)
 }
 
-/// The words of the command line, of which the first is the program's name.
+/// The words of the command line; the first is the program's name.
 fn words<R: env::Env + AllocGlobal>(rt: &R) -> io::Result<Vec<String>> {
     Ok(env::args(rt)?.collect(rt.alloc())?)
 }

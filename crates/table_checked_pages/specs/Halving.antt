@@ -1,8 +1,8 @@
--- The end of the rows that are below the one that is sought.
+-- The boundary between the rows that are below the sought one and those that are not.
 use Rattle.std.specs.Prelude.{◌<◌, ◌≤◌, ◌-◌, ℕ}
 
--- A place from `from` to `to`: the row before it is below, if there is one from `from` on, and the row at it is not, if
--- there is one before `to`.
+-- An index from `from` to `to`: the row before it is below the sought one, if there is one from `from` on, and its own
+-- row is not, if it is before `to`.
 pub record IsEdge (is_below : ℕ → Type 0) (from to place : ℕ) : Type 0 where
   pub least : from ≤ place
   pub most : from ≤ to → place ≤ to

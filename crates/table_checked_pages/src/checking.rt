@@ -1,4 +1,4 @@
-//! So many bytes, compared with their digest.
+//! A number of bytes, compared with their digest.
 
 ghost use Rattle.std.specs.Prelude.{◌≡◌, ◌+◌, ◌<◌, ◌≤◌, ◌^◌, IfOk, IfErr, OnErr, length, take, drop};
 ghost use Rattle.sha2.specs.Sha256.{sha256};
@@ -9,7 +9,8 @@ use byte_device::{Placed, ReadFault, read_at};
 use memory::Heap;
 use sha2::{Digest, Sha256};
 
-/// Reads so many bytes from an offset on, and compares their SHA-256 with a digest.
+/// Reads `count` bytes from an offset on, and compares their SHA-256 with a digest. The error is `Changed` if it
+/// differs or there are fewer bytes, `Device` or `OutOfMemory`.
 pub fn read_checked<P: Placed>(
     heap: Heap,
     device: &mut P,
@@ -31,7 +32,7 @@ pub fn read_checked<P: Placed>(
     }
 }
 
-/// The bytes, where they have this SHA-256.
+/// The bytes, if they have this SHA-256; else the error `Changed`.
 fn has_digest(bytes: Vec<u8, Heap>, digest: &[u8]) -> Result<Vec<u8, Heap>, CheckFault>
     ensures same { IfOk result (λ same. (same.items ≡ bytes.items) × (sha256 bytes.items ≡ digest.now)) }
     ensures changed { OnErr result (sha256 bytes.items ≡ digest.now → ⊥) }

@@ -1,14 +1,14 @@
-//! Why no bytes are given.
+//! Why bytes cannot be returned.
 
 use byte_device::{Failed, ReadFault};
 
-/// Why no bytes are given.
+/// Why bytes cannot be returned.
 #[derive(Clone, Copy, Debug, PartialEq, Eq, Drop)]
 pub enum CheckFault {
-    /// What stands there is not what the digests vouch for, or fewer bytes stand there.
+    /// The stored bytes differ from their digests, or there are fewer.
     Changed,
     /// The device failed in this call.
     Device,
-    /// A growth of the memory was refused.
+    /// Memory could not be allocated.
     OutOfMemory,
 }

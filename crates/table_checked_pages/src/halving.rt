@@ -1,4 +1,4 @@
-//! Which of some places in stored pages are below what is sought, found by halving.
+//! Binary search among rows in stored pages.
 
 ghost use Rattle.std.specs.Prelude.{◌≡◌, ◌≤◌, ◌<◌, ℕ, List, Decides, IfOk};
 ghost use Rattle.table_checked_pages.specs.Halving.{IsEdge};
@@ -10,24 +10,24 @@ use crate::fault::CheckFault;
 use crate::pages::Pages;
 use byte_device::Placed;
 
-/// What is sought among rows that stand in pages by place.
+/// A sought row among the rows in pages, by index.
 pub trait Sought {
-    // What the rows are.
+    // The type of the rows.
     ghost Rows: { Type 0 };
 
-    // These rows stand in all bytes of the pages.
+    // These rows are stored in the bytes of the pages.
     ghost stand: { Self → Rows → List ℕ → Type 0 };
 
-    // All that may be asked for is held in all bytes of the pages.
+    // The bytes of the pages contain every row that the search may read.
     ghost is_held: { Self → List ℕ → Type 0 };
 
-    // The row of a place is below what is sought.
+    // The row at an index is below the sought one.
     ghost is_below: { Self → Rows → ℕ → Type 0 };
 
-    // How many rows may be asked for.
+    // The number of rows that the search may read.
     ghost count: { Self → ℕ };
 
-    /// Whether the row of a place is below what is sought.
+    /// Whether the row at an index is below the sought one.
     fn is_below<P: Placed>(
         &self,
         device: &mut P,
@@ -44,8 +44,9 @@ pub trait Sought {
             → is_held self.now all → ⊥) };
 }
 
-/// A place from `from` to `to`: the row before it is below what is sought, and its own is not. One row is read for each
-/// halving. Where rows ascend, those before it are all that are below.
+/// The index from `from` to `to` such that the row before it is below the sought one, and its own row is not. One row
+/// is read in each step of the binary search. If the rows ascend, exactly the rows before this index are below the
+/// sought one.
 pub fn partition_point<P: Placed, S: Sought>(
     device: &mut P,
     pages: &mut Pages,

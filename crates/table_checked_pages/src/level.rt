@@ -1,4 +1,4 @@
-//! The pages of a level that are known.
+//! The known pages of a level.
 
 ghost use Rattle.std.specs.Prelude.{◌≡◌, ◌<◌, ℕ, List, [], OnOk, length, slice_index_or};
 ghost use Rattle.table_checked_pages.specs.Pages.{AreKept, page_of};
@@ -6,14 +6,14 @@ ghost use Rattle.table_checked_pages.specs.Views.{level_view};
 
 use memory::{Heap, NoMemory};
 
-/// The pages of a level that were read, by their numbers; one without bytes was not.
+/// The pages of a level that were read, by their numbers; a page without bytes was not read.
 #[derive(Drop)]
 pub struct Level {
     pub(crate) kept: Vec<Vec<u8, Heap>, Heap>,
 }
 
 impl Level {
-    /// No page.
+    /// No pages.
     pub(crate) fn new(heap: Heap) -> Level
         ensures { level_view result ≡ [] }
     {
@@ -22,7 +22,7 @@ impl Level {
         }
     }
 
-    /// A page, without bytes if it was not read.
+    /// A page; empty if it was not read.
     pub(crate) fn page(&self, index: u64) -> &[u8]
         ensures { result.now ≡ slice_index_or (level_view self.now) index [] }
     {

@@ -1,19 +1,19 @@
-//! Stored bytes that are compared with their digests, page by page, before one of them is given.
+//! Stored bytes that are compared with their digests, page by page, before one of them is returned.
 //!
-//! Bytes of at most one page, 4,096 bytes, are stored as they are. Others are stored after the SHA-256 of each of their
-//! pages, one after another: bytes that are stored in the same way. So the levels of digests end in one page, whose
-//! SHA-256 is the root. Whoever has the root can trust each byte that is given.
+//! Bytes of at most one page, 4,096 bytes, are stored as they are. More bytes are stored after the SHA-256 of each of
+//! their pages, one after another; these digests are bytes that are stored in the same way. So the levels of digests
+//! end in one page, whose SHA-256 is the root. A caller with the root can trust each byte that is returned.
 //!
-//! - `claim`: [`Claim`], where bytes are said to be stored;
-//! - `fault`: [`CheckFault`], why none are given;
-//! - `sizes`: how many bytes are stored, and how many each level has;
-//! - `checking`: so many bytes, compared with their digest;
-//! - `level`: the pages of a level that are known;
-//! - `pages`: [`Pages`], stored bytes, and those of their pages that are known;
-//! - `opening`: [`Pages::open`], the bytes that a claim names; `reading`: [`Pages::read`], some of them;
-//! - `halving`: [`partition_point`], which of the rows that stand in pages are below what is sought ([`Sought`]);
-//! - `storing`: [`store`], bytes as they are stored; `numbers`: the numbers among them;
-//! - `laws`: how bytes are stored; what is supposed of SHA-256, and when nothing is.
+//! - `claim`: [`Claim`], the place at which bytes are said to be stored;
+//! - `fault`: [`CheckFault`], why bytes cannot be returned;
+//! - `sizes`: the number of bytes that are stored, and of each level;
+//! - `checking`: a number of bytes, compared with their digest;
+//! - `level`: the known pages of a level;
+//! - `pages`: [`Pages`], stored bytes, and their known pages;
+//! - `opening`: [`Pages::open`], the bytes of a claim; `reading`: [`Pages::read`], some of them;
+//! - `halving`: [`partition_point`], a binary search among rows in pages ([`Sought`]);
+//! - `storing`: [`store`], bytes with their digests; `numbers`: the numbers among stored bytes;
+//! - `laws`: how bytes are stored; the assumption about SHA-256, and when it is not needed.
 #![tactic(auto)]
 
 mod checking;

@@ -1,4 +1,4 @@
-//! Stored bytes as a claim names them.
+//! The opening of stored bytes.
 
 ghost use Rattle.std.specs.Prelude.{◌≡◌, ◌<◌, ◌^◌, ℕ, List, IfErr, IfOk, OnErr, length};
 ghost use Rattle.table_checked_pages.specs.Pages.{AreStored, MayBeStored};
@@ -10,7 +10,7 @@ use crate::{CheckFault, Claim, Pages};
 use memory::Heap;
 
 impl Pages {
-    /// The bytes that a claim names. None is read before one is asked for.
+    /// The bytes of a claim. No byte is read before the first call of [`Pages::read`].
     #[tactic(auto, unfolding(crate::specs::Pages::AreKeptLevels))]
     pub fn open(heap: Heap, claim: Claim) -> Result<Pages, CheckFault>
         ensures claim { IfOk result (λ pages. pages.claim ≡ claim) }

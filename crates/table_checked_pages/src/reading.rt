@@ -16,14 +16,14 @@ use byte_device::Placed;
 use memory::{Heap, NoMemory};
 
 impl Pages {
-    /// How many bytes there are.
+    /// The number of bytes.
     pub fn size(&self) -> u64
         ensures { result ≡ self.now.claim.size }
     {
         self.claim.size
     }
 
-    /// Drops the pages of the bytes that were read, but no digests. One of which bytes are asked for is read anew.
+    /// Drops the pages of bytes, but no digests. A page is read again when one of its bytes is needed.
     #[tactic(auto, unfolding(crate::specs::Pages::AreKeptLevels))]
     pub fn forget(&mut self)
         ensures claim { self.new.claim ≡ self.old.claim }
@@ -34,7 +34,7 @@ impl Pages {
         }
     }
 
-    /// How many bytes a page of a level has.
+    /// The size of a page of a level in bytes.
     fn page_len(&self, level: usize, index: u64) -> u64
         requires { 4096 * index < level_size level self.now.claim.size }
         ensures { result ≡ min 4096 (level_size level self.now.claim.size - 4096 * index) }
@@ -52,7 +52,7 @@ impl Pages {
         self.claim.offset + digests_len(size) + PAGE_LEN * index
     }
 
-    /// A page of a level, without bytes if it is not kept.
+    /// A page of a level; empty if it is not kept.
     fn page(&self, level: usize, index: u64) -> &[u8]
         ensures { result.now ≡ page_at self.now level index }
     {
@@ -83,7 +83,7 @@ impl Pages {
         digest
     }
 
-    /// Makes room for what is known of a level.
+    /// Makes room for the pages of a level.
     fn make_level(&mut self, level: usize) -> Result<(), NoMemory>
         ensures room { OnOk result (level < length self.new.levels.items) }
         ensures claim { self.new.claim ≡ self.old.claim }
@@ -109,7 +109,7 @@ impl Pages {
         pages.keep(&heap, index, page)
     }
 
-    /// Reads a page of a level, compares it with a digest, and keeps it.
+    /// Reads a page of a level, compares it with a digest, and keeps it. The errors are those of [`read_checked`].
     fn fetch<P: Placed>(
         &mut self,
         device: &mut P,
@@ -139,8 +139,8 @@ impl Pages {
         }
     }
 
-    /// Keeps a page of a level, unless it is kept, after the page above it, which has its digest; that of the highest
-    /// level is the root.
+    /// Keeps a page of a level, unless it is kept. It keeps the page above it first, which has its digest; the digest
+    /// of the highest level is the root.
     fn bring<P: Placed>(
         &mut self,
         device: &mut P,
@@ -170,7 +170,7 @@ impl Pages {
         self.fetch(device, level, index, &digest)
     }
 
-    /// Fills a buffer with bytes of a page, from one of its bytes on.
+    /// Fills a buffer with bytes of a page, from an offset in the page on.
     fn part<P: Placed>(
         &mut self,
         device: &mut P,
@@ -194,7 +194,8 @@ impl Pages {
         Ok(())
     }
 
-    /// Fills a buffer with the bytes from an offset on.
+    /// Fills a buffer with the bytes from an offset on. The error is `Changed` if a page differs from its digest or the
+    /// buffer passes the end, `Device` or `OutOfMemory`.
     pub fn read<P: Placed>(
         &mut self,
         device: &mut P,

@@ -1,25 +1,25 @@
-//! How many bytes are stored.
+//! The sizes of stored bytes.
 
 ghost use Rattle.std.specs.Prelude.{◌≡◌, ◌≤◌, ◌+◌, ◌*◌, ◌/◌};
 ghost use Rattle.table_checked_pages.specs.Pages.{digests_size, level_size, pages_in};
 
-/// How many bytes a page has.
+/// The size of a page in bytes.
 pub const PAGE_LEN: u64 = 4096;
 
-/// How many bytes a digest has.
+/// The size of a digest in bytes.
 pub(crate) const DIGEST_LEN: u64 = 32;
 
-/// How many digests a page has.
+/// The number of digests in a page.
 pub(crate) const FAN_OUT: u64 = PAGE_LEN / DIGEST_LEN;
 
-/// How many pages so many bytes have.
+/// The number of pages of `size` bytes.
 pub fn pages_in(size: u64) -> u64
     ensures { result ≡ pages_in size }
 {
     size / PAGE_LEN + if size % PAGE_LEN == 0 { 0 } else { 1 }
 }
 
-/// How many bytes a level of so many bytes has.
+/// The size of a level above `size` bytes; level 0 is the bytes themselves.
 pub(crate) fn level_size(size: u64, level: usize) -> u64
     ensures { result ≡ level_size level size }
 {
@@ -32,7 +32,7 @@ pub(crate) fn level_size(size: u64, level: usize) -> u64
     here
 }
 
-/// How many bytes are stored before so many: the digests of all levels above.
+/// The size of the digests of all levels, which are stored before `size` bytes.
 pub fn digests_len(size: u64) -> u64
     ensures is { result ≡ digests_size size }
     ensures most { result ≤ size }

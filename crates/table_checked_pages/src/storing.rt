@@ -1,4 +1,4 @@
-//! Bytes as they are stored.
+//! Bytes with their digests.
 
 ghost use Rattle.std.specs.Prelude.{◌≡◌, ◌<◌, ◌≤◌, ◌*◌, ◌^◌, ℕ, List, IfOk, length};
 ghost use Rattle.sha2.specs.Sha256.{sha256};
@@ -8,7 +8,7 @@ use crate::sizes::{PAGE_LEN, pages_in};
 use memory::{Heap, NoMemory};
 use sha2::{Digest, Sha256};
 
-/// Bytes as they are stored, and their root.
+/// Bytes with their digests, and their root.
 #[derive(Drop)]
 pub struct Stored {
     /// The page digests of all levels, and then the bytes.
@@ -37,7 +37,7 @@ fn page_digests(heap: Heap, bytes: &[u8]) -> Result<Vec<u8, Heap>, NoMemory>
     Ok(digests)
 }
 
-/// Bytes as they are stored.
+/// Bytes with their digests, as they are stored.
 pub fn store(heap: &Heap, bytes: Vec<u8, Heap>) -> Result<Stored, NoMemory>
     ensures stored { IfOk result (λ made. made.bytes.items ≡ stored bytes.items) }
     ensures root { IfOk result (λ made. made.root ≡ root_of bytes.items) }

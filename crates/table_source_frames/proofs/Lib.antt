@@ -3,7 +3,7 @@ pub mod RunLemmas
 pub mod NumberingLemmas
 pub mod SameLemmas
 pub mod ChainLemmas
-pub mod TextLemmas
+pub mod TablePartLemmas
 pub mod OpenedLemmas
 pub mod OpeningLemmas
 pub mod SearchLemmas

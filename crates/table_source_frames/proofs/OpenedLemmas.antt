@@ -25,11 +25,11 @@ use Rattle.table_source_frames.proofs.ChainLemmas.{HasNumber, chain_fits, chains
 use Rattle.table_source_frames.proofs.NumberingLemmas.{IsExact, number_within, numbered_at}
 use Rattle.table_source_frames.proofs.RunLemmas.{lower_fits, run_steps_at, run_upper_fits}
 use Rattle.table_source_frames.proofs.SameLemmas.{chain_decides, path_decides, text_decides}
-use Rattle.table_source_frames.proofs.TextLemmas.{base_in, caller_in, column_in, count_in, directory_in, file_in}
-use Rattle.table_source_frames.proofs.TextLemmas.{file_name_in, file_there, texts_offset, first_file, locations_offset}
-use Rattle.table_source_frames.proofs.TextLemmas.{first_step, first_text, length-line_text, length_in, line_in}
-use Rattle.table_source_frames.proofs.TextLemmas.{location_in, location_there, lower_in, name_in, place_in, place_of}
-use Rattle.table_source_frames.proofs.TextLemmas.{run_there, step_there, text_there, text_within, upper_in}
+use Rattle.table_source_frames.proofs.TablePartLemmas.{base_in, caller_in, column_in, count_in, directory_in, file_in}
+use Rattle.table_source_frames.proofs.TablePartLemmas.{file_name_in, file_there, texts_offset, first_file, locations_offset}
+use Rattle.table_source_frames.proofs.TablePartLemmas.{first_step, first_text, length-line_text, length_in, line_in}
+use Rattle.table_source_frames.proofs.TablePartLemmas.{location_in, location_there, lower_in, name_in, place_in, place_of}
+use Rattle.table_source_frames.proofs.TablePartLemmas.{run_there, step_there, text_there, text_within, upper_in}
 
 -- what is numbered stands at its index
 pub stands_at : {A : Type 0} (same : A → A → Bool) (decides : IsExact same) (xs : List A) (x : A) (number index : ℕ)

@@ -18,7 +18,7 @@ use Rattle.table_source_frames.specs.Steps.{AreFrameSteps, StepRecord}
 use Rattle.table_source_frames.specs.declared.opening.Head.{Head}
 use Rattle.table_source_frames.specs.declared.table.LineTable.{LineTable}
 use Rattle.table_source_frames.proofs.RunLemmas.{few_runs}
-use Rattle.table_source_frames.proofs.TextLemmas.{head_there, length-line_text}
+use Rattle.table_source_frames.proofs.TablePartLemmas.{head_there, length-line_text}
 
 length-no_lines : length no_lines ≡ 56
 unfolding no_lines

@@ -5,7 +5,7 @@ use Rattle.std.specs.List.{concat}
 use Rattle.table_source_frames.specs.LineText.{LineParts, line_text, parts_of}
 use Rattle.table_source_frames.specs.Steps.{AreFrameSteps, StepRecord}
 
--- the counts of parts have four bytes, and so have the places and lengths of texts
+-- the counts of parts fit into four bytes, and so do the offsets and lengths of texts
 pub record AreFew (parts : LineParts) : Type 0 where
   pub steps : length parts.steps < 2 ^ 32
   pub chains : length parts.chains < 2 ^ 32
@@ -13,24 +13,23 @@ pub record AreFew (parts : LineParts) : Type 0 where
   pub texts : length parts.texts < 2 ^ 32
   pub bytes : length (concat parts.texts) < 2 ^ 32
 
--- the table of some steps fits into so many bytes, and each of its numbers into its own
+-- the table of steps fits into `room` bytes, and each of its numbers into its own bytes
 pub record FitsLines (room : ℕ) (steps : List StepRecord) : Type 0 where
   pub few : AreFew (parts_of steps)
   pub size : length (line_text steps) ≤ room
 
--- the bytes of a table that has no lines: a head of zeros
+-- the bytes of a table without lines: a head of zeros
 unfoldable pub no_lines : List ℕ
 no_lines =
     to_be_bytes w64 0 ++ (to_be_bytes w64 0 ++ (to_be_bytes w64 0 ++ (to_be_bytes w64 0
     ++ (to_be_bytes w64 0 ++ (to_be_bytes w64 0 ++ to_be_bytes w64 0)))))
 
--- the table of some steps where so many bytes are allowed: that of all of them where it fits, and else one that has no
--- lines
+-- the table of steps if `room` bytes are allowed: that of all steps if it fits, else the one without lines
 abbrev pub IsLineTextWithin : ℕ → List StepRecord → List ℕ → Type 0
 IsLineTextWithin room steps bytes =
     (FitsLines room steps × (bytes ≡ line_text steps)) ⊎ ((FitsLines room steps → ⊥) × (bytes ≡ no_lines))
 
--- how many bytes are allowed for the table of an image: four times its own, and always those of a head
+-- the largest size of the table of an image: four times the size of the image, and at least that of a head
 abbrev pub room_of : List ℕ → ℕ
 room_of image = max 56 (4 * length image)
 

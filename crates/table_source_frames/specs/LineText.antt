@@ -9,18 +9,18 @@ use Rattle.table_source_frames.specs.Numbering.{distinct, number_in, number_or_z
 use Rattle.table_source_frames.specs.Runs.{RunRecord, lower_half, runs_of}
 use Rattle.table_source_frames.specs.Steps.{StepRecord}
 
--- the chains of the frames of an address: the outermost frame alone, it with the one that it called, and so on, up to
+-- the chains of the frames of an address: the outermost frame alone, it with the frame that it called, and so on, up to
 -- all of them; each has the innermost frame first
 unfoldable pub chains_of : List FrameRecord → List (List FrameRecord)
 chains_of [] = []
 chains_of (frame ∷ callers) = chains_of callers ++ (frame ∷ callers) ∷ []
 
--- the name that the innermost frame of a chain has, or none
+-- the name of the innermost frame of a chain, or none
 abbrev pub innermost_name : List FrameRecord → Option (List ℕ)
 innermost_name [] = None
 innermost_name (frame ∷ callers) = frame.name
 
--- the path that it has, or none
+-- the path of the innermost frame of a chain, or none
 abbrev pub innermost_path : List FrameRecord → Option PathRecord
 innermost_path [] = None
 innermost_path (frame ∷ callers) = frame.path
@@ -29,8 +29,8 @@ innermost_path (frame ∷ callers) = frame.path
 abbrev pub path_texts : PathRecord → List (List ℕ)
 path_texts path = path.base ∷ path.directory ∷ path.name ∷ []
 
--- what a line table has: steps, and what they have that is told by number: chains of frames (a location is the
--- innermost frame of one), paths of files, and texts
+-- the parts of a line table: steps, and the numbered elements to which they refer: chains of frames (a location is the
+-- innermost frame of a chain), paths of files, and texts
 pub record LineParts : Type 0 where
   pub steps : List StepRecord
   pub chains : List (List FrameRecord)
@@ -45,11 +45,11 @@ chains_in steps = distinct same_chain (flat_map (λ s. chains_of s.frames) steps
 unfoldable pub files_in : List (List FrameRecord) → List PathRecord
 files_in chains = distinct same_path (filter_map innermost_path chains)
 
--- the distinct texts of the names of chains, and then of files
+-- the distinct texts of the names of chains, then of files
 unfoldable pub texts_in : List (List FrameRecord) → List PathRecord → List (List ℕ)
 texts_in chains files = distinct same_text (filter_map innermost_name chains ++ flat_map path_texts files)
 
--- the parts of the table of some steps
+-- the parts of the table of steps
 abbrev pub parts_of : List StepRecord → LineParts
 parts_of steps =
     record {
@@ -59,24 +59,24 @@ parts_of steps =
       texts = texts_in (chains_in steps) (files_in (chains_in steps));
     }
 
--- the head: seven numbers of eight bytes. The first is 1, as there are lines
+-- the head: seven eight-byte numbers; the first is 1, since there are lines
 unfoldable pub head_bytes : LineParts → List ℕ
 head_bytes parts =
     to_be_bytes w64 1 ++ (to_be_bytes w64 (length (runs_of parts.steps)) ++ (to_be_bytes w64 (length parts.steps)
     ++ (to_be_bytes w64 (length parts.chains) ++ (to_be_bytes w64 (length parts.files)
     ++ (to_be_bytes w64 (length parts.texts) ++ to_be_bytes w64 (length (concat parts.texts)))))))
 
--- a run in 8 bytes: its upper half, and how many steps there are up to its last
+-- a run in 8 bytes: its upper half, and the number of steps up to its last
 unfoldable pub run_bytes : RunRecord → List ℕ
 run_bytes run = to_be_bytes w32 run.upper ++ to_be_bytes w32 run.steps
 
--- a step in 8 bytes: the lower half of its start, and the number of its chain; 0 where it has no frames
+-- a step in 8 bytes: the lower half of its start, and the number of its chain, 0 if it has no frames
 unfoldable pub step_bytes : LineParts → StepRecord → List ℕ
 step_bytes parts step =
     to_be_bytes w32 (lower_half step.start) ++ to_be_bytes w32 (number_in same_chain parts.chains step.frames)
 
--- a location in 20 bytes: the numbers of its name and of its file, line and column, and the number of the chain of its
--- callers; 0 where there is none
+-- a location in 20 bytes: the numbers of its name and of its file, its line and column, and the number of the chain of
+-- its callers; 0 for each that is missing
 unfoldable pub location_bytes : LineParts → List FrameRecord → List ℕ
 location_bytes parts [] = []
 location_bytes parts (frame ∷ callers) =
@@ -92,7 +92,7 @@ file_bytes parts path =
     ++ (to_be_bytes w32 (number_in same_text parts.texts path.directory)
     ++ to_be_bytes w32 (number_in same_text parts.texts path.name))
 
--- each of some texts in 8 bytes: its place among the bytes of all texts, of which so many stand before, and its length
+-- each text in 8 bytes: its offset in the bytes of all texts, of which `before` precede these texts, and its length
 unfoldable pub text_rows : ℕ → List (List ℕ) → List ℕ
 text_rows before [] = []
 text_rows before (text ∷ texts) =
@@ -109,6 +109,6 @@ table_bytes parts =
     ++ (text_rows 0 parts.texts
     ++ concat parts.texts)))))
 
--- the bytes of the table of some steps
+-- the bytes of the table of steps
 abbrev pub line_text : List StepRecord → List ℕ
 line_text steps = table_bytes (parts_of steps)

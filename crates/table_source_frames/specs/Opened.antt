@@ -13,7 +13,7 @@ use Rattle.table_source_frames.specs.Runs.{runs_of}
 use Rattle.table_source_frames.specs.Steps.{StepRecord}
 use Rattle.table_source_frames.specs.declared.table.LineTable.{LineTable}
 
--- the numbers of a head are those of the parts of a table
+-- the counts of an opened table are those of these parts
 pub record IsHeadOf (table : LineTable) (parts : LineParts) : Type 0 where
   pub runs : table.runs ≡ length (runs_of parts.steps)
   pub steps : table.steps ≡ length parts.steps
@@ -22,11 +22,11 @@ pub record IsHeadOf (table : LineTable) (parts : LineParts) : Type 0 where
   pub texts : table.texts ≡ length parts.texts
   pub bytes : table.bytes ≡ length (concat parts.texts)
 
--- lines and columns of frames have four bytes
+-- the lines and columns of frames fit into four bytes
 abbrev pub HaveFewLines : List StepRecord → Type 0
 HaveFewLines steps = All (λ s. All (λ f. (f.line < 2 ^ 32) × (f.column < 2 ^ 32)) s.frames) steps
 
--- each number of the table of some steps fits into its bytes
+-- each number of the table of steps fits into its bytes
 pub record HaveWidths (steps : List StepRecord) : Type 0 where
   pub starts : All (λ s. s.start < 2 ^ 64) steps
   pub lines : HaveFewLines steps
@@ -45,13 +45,13 @@ pub record IsOpened (table : LineTable) (pages : Pages) (text all : List ℕ) (s
   pub widths : HaveWidths steps
   pub head : IsHeadOf table (parts_of steps)
 
--- no table that was opened is stored there
+-- no opened table, of any steps, is stored there
 abbrev pub IsUnstored : LineTable → Pages → List ℕ → Type 0
 IsUnstored table pages text = (all : List ℕ) (steps : List StepRecord) → AreStored text (claim_view pages.claim) all
     → IsOpened table pages text all steps → ⊥
 
--- A call reads of a table that was opened: what it gives is true of the steps of that table, and it is refused as
--- changed only if no such table is stored there.
+-- A call reads from an opened table: its result is true of the steps of that table, and its error is `Changed` only if
+-- no such table is stored there.
 abbrev pub ReadsTable : {D T : Type 0} → (D → Option (List ℕ)) → (D → ℕ) → D → D → Result T CheckFault → LineTable
     → Pages
     → (List StepRecord → T → Type 0) → Type 0
@@ -59,7 +59,7 @@ ReadsTable whole failures old new result table pages IsTrue = ReadsStored whole 
     (λ text given. (all : List ℕ) (steps : List StepRecord) → IsOpened table pages text all steps → IsTrue steps given)
     (IsUnstored table pages)
 
--- The same of a part of that table which it is asked for: whatever that is, what the call gives is true of it.
+-- The same for a part of that table: the result of the call is true of the part, whatever it is.
 abbrev pub ReadsPart : {D T : Type 0} (A : Type 0) → (D → Option (List ℕ)) → (D → ℕ) → D → D → Result T CheckFault
     → LineTable
     → Pages → (List StepRecord → A → Type 0) → (List StepRecord → A → T → Type 0) → Type 0

@@ -1,4 +1,4 @@
--- The runs of steps: neighbours of which the starts have one upper half. A step stores the lower half alone.
+-- The runs of steps: consecutive steps whose starts have the same upper half. A step stores the lower half alone.
 use Rattle.std.specs.Prelude.{◌+◌, ◌/◌, ◌%◌, ◌^◌, ◌==◌, ℕ, Bool, false, List, [], ◌∷◌, if◌then◌else◌}
 use Rattle.table_source_frames.specs.Steps.{StepRecord, starts_of}
 
@@ -9,18 +9,18 @@ upper_half address = address / 2 ^ 32
 unfoldable pub lower_half : ℕ → ℕ
 lower_half address = address % 2 ^ 32
 
--- a run: the upper half that its starts have, and how many steps there are up to its last
+-- a run: the upper half of its starts, and the number of steps up to its last
 pub record RunRecord : Type 0 where
   pub upper : ℕ
   pub steps : ℕ
 
--- whether some starts go on with an upper half
+-- whether the first of these starts has this upper half
 unfoldable pub go_on : ℕ → List ℕ → Bool
 go_on upper [] = false
 go_on upper (start ∷ starts) = upper_half start == upper
 
--- the runs of starts before which there are so many steps: one ends where the next start has another upper half, and
--- with the last start
+-- the runs of starts that follow `before` steps: a run ends before a start with another upper half, and with the last
+-- start
 unfoldable pub runs_after : ℕ → List ℕ → List RunRecord
 runs_after before [] = []
 runs_after before (start ∷ starts) =

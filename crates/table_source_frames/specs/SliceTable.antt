@@ -9,6 +9,6 @@ pub record IsSliceTable (image bytes : List ℕ) : Type 0 where
   pub are_lines : IsLineTable image lines
   pub is_table : IsTableWith image lines bytes
 
--- the line table of a slice is one that has no lines
+-- the line table of a slice is the one without lines
 abbrev pub HasNoLines : List ℕ → Type 0
 HasNoLines image = IsLineTable image no_lines

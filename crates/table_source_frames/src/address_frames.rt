@@ -1,4 +1,4 @@
-//! The frames of an address, by a line table.
+//! The frames of an address from a line table.
 
 ghost use Rattle.std.specs.Prelude.{◌≡◌, ◌<◌, ◌≤◌, ◌++◌, ◌∷◌, [], ℕ, List, Some, IfErr, IfOk, OnOk, length};
 ghost use Rattle.table_checked_pages.specs.Pages.{AreStored};
@@ -21,10 +21,10 @@ use byte_device::Placed;
 use memory::Heap;
 use table_checked_pages::{CheckFault, Pages, u32_be_at};
 
-/// How many frames an address has at most.
+/// The largest number of frames of an address.
 const MOST_FRAMES: usize = 256;
 
-/// Adds a frame.
+/// Adds a frame. The error is `OutOfMemory`.
 fn push(frames: &mut Vec<OwnedFrame, Heap>, frame: OwnedFrame) -> Result<(), CheckFault>
     ensures pushed { OnOk result (frames.new.items ≡ frames.old.items ++ frame ∷ []) }
     ensures fault { IfErr result (λ fault. fault ≡ CheckFault.OutOfMemory) }
@@ -36,7 +36,7 @@ fn push(frames: &mut Vec<OwnedFrame, Heap>, frame: OwnedFrame) -> Result<(), Che
 }
 
 impl LineTable {
-    /// The location of a number.
+    /// The location with a number.
     fn location<P: Placed>(
         &self,
         device: &mut P,
@@ -101,7 +101,7 @@ impl LineTable {
         })
     }
 
-    /// The frames of a location and of its callers, up to the outermost one. Numbers fall from one to the next.
+    /// The frames of a location and of its callers, up to the outermost one. The number of each caller is smaller.
     fn frames_from<P: Placed>(
         &self,
         heap: Heap,
@@ -138,8 +138,8 @@ impl LineTable {
         Ok(frames)
     }
 
-    /// The frames of an address of the file, the innermost first: a halving over the runs and one over the steps, and
-    /// one location for each frame.
+    /// The frames of an address of the file, the innermost first: one binary search in the runs and one in the steps,
+    /// and one location for each frame. The errors are those of [`CheckFault`].
     pub fn frames_at<P: Placed>(
         &self,
         heap: Heap,

@@ -18,7 +18,7 @@ use memory::Heap;
 use table_checked_pages::{CheckFault, Pages, u32_be_at};
 
 impl LineTable {
-    /// The row of the file of a number.
+    /// The row of the file with a number.
     fn file_row<P: Placed>(
         &self,
         device: &mut P,
@@ -46,7 +46,7 @@ impl LineTable {
         })
     }
 
-    /// The path of a row.
+    /// The path with a row.
     fn path_of<P: Placed>(
         &self,
         heap: Heap,
@@ -72,7 +72,7 @@ impl LineTable {
         })
     }
 
-    /// The path of the file of a number, or none where that is 0.
+    /// The path of the file with a number; `None` for 0.
     pub(crate) fn maybe_path<P: Placed>(
         &self,
         heap: Heap,

@@ -1,4 +1,4 @@
-//! Frames that were read of a table.
+//! Frames that were read from a table.
 
 ghost use Rattle.std.specs.Prelude.{◌≡◌};
 ghost use Rattle.std.specs.Option.{option_map};
@@ -10,18 +10,18 @@ use dwarf_lines::PathParts;
 use dwarf_source_frames::SourceFrame;
 use memory::Heap;
 
-/// The parts of a path. It holds them.
+/// The parts of a path, which it owns.
 #[derive(Drop)]
 pub struct OwnedPath {
     /// The directory of the compilation.
     pub base: Vec<u8, Heap>,
-    /// The directory of the file; empty if it is that of the compilation.
+    /// The directory of the file; empty if it is the directory of the compilation.
     pub directory: Vec<u8, Heap>,
     /// The name of the file.
     pub name: Vec<u8, Heap>,
 }
 
-/// A frame. It holds its texts.
+/// A frame, which owns its texts.
 #[derive(Drop)]
 pub struct OwnedFrame {
     /// The name of its function.
@@ -33,7 +33,7 @@ pub struct OwnedFrame {
 }
 
 impl OwnedPath {
-    /// The same with its parts borrowed.
+    /// The same path with its parts borrowed.
     pub fn borrowed(&self) -> PathParts<'_>
         ensures { path_view result ≡ owned_path_view self.now }
     {
@@ -66,7 +66,7 @@ impl OwnedFrame {
         }
     }
 
-    /// The same with its texts borrowed.
+    /// The same frame with its texts borrowed.
     pub fn borrowed(&self) -> SourceFrame<'_>
         ensures { frame_view result ≡ owned_frame_view self.now }
     {

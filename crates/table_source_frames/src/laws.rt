@@ -1,4 +1,4 @@
-//! What the definitions say of each other. Each law is the contract of a function that does nothing.
+//! Relations between the definitions. Each law is the contract of a function that does nothing.
 
 ghost use Rattle.std.specs.Prelude.{◌≡◌, ◌<◌, ◌^◌, ℕ, List, Option};
 ghost use Rattle.dwarf_source_frames.specs.AddressFrames.{AreFramesOf};
@@ -9,13 +9,14 @@ ghost use Rattle.table_symbols.specs.Table.{IsTableText};
 
 use dwarf_source_frames::laws::one_list_of_frames;
 
-/// An address belongs to one step or to none.
+/// An address has one step or none.
 pub fn one_step()
     ensures { (starts : List ℕ) (address : ℕ) (found other : Option ℕ) → IsStepFor starts address found
         → IsStepFor starts address other → found ≡ other }
 {}
 
-/// The frames of an address are those of the last step that begins at it or below it; where there is none it has none.
+/// The frames of an address are those of the last step that begins at or below it; if there is no such step, it has
+/// none.
 pub fn frames_by_step()
     ensures { (image : List ℕ) (steps : List StepRecord) (address : ℕ) (found : Option ℕ) → address < 2 ^ 64
         → AreFrameSteps image steps → IsStepFor (starts_of steps) address found
@@ -33,7 +34,7 @@ pub fn one_list_of_steps()
     one_list_of_frames();
 }
 
-/// Steps have one text within so many bytes.
+/// Steps have one text for each limit on its size.
 pub fn one_text()
     ensures { (room : ℕ) (steps : List StepRecord) (bytes others : List ℕ) → IsLineTextWithin room steps bytes
         → IsLineTextWithin room steps others → bytes ≡ others }
@@ -55,7 +56,7 @@ pub fn one_slice_table()
     table_symbols::laws::one_text();
 }
 
-/// The table of a slice is a table of its symbols: what is asked of these by such a one is asked of it too.
+/// The table of a slice is a table of its symbols: each result for symbols of such tables holds for it too.
 pub fn has_symbols()
     ensures { (image bytes : List ℕ) → IsSliceTable image bytes → IsTableText image bytes }
 {}

@@ -1,24 +1,24 @@
 //! The source lines and inlined frames of each address of a slice, step by step, as a table stores them.
 //!
-//! At each address at which the frames are others than those of the address before a step says the location of the
-//! innermost one. A location says its function, file, line and column, and the location of its caller, which has a
-//! smaller number. So an answer is a halving over one list, and a chain that falls.
+//! At each address whose frames differ from those of the address before, a step has the location of the innermost
+//! frame. A location has its function, file, line and column, and the location of its caller, whose number is smaller.
+//! So a lookup is a binary search in one list, and a chain of falling numbers.
 //!
-//! - `row`: the rows of a table, of 8, 20 or 12 bytes; `table`: [`LineTable`], a table whose head was read, and
-//!   where its parts stand;
-//! - `opening`: [`LineTable::open`]; `halves`: the two halves of an address; `runs`: how many steps have a start
-//!   whose upper half is below a limit; `search`: the step that an address belongs to;
+//! - `row`: the rows of a table, of 8, 20 or 12 bytes; `table`: [`LineTable`], a table whose head was read, and the
+//!   offsets of its parts;
+//! - `opening`: [`LineTable::open`]; `halves`: the two halves of an address; `runs`: the number of steps whose start
+//!   has an upper half below a limit; `search`: the step of an address;
 //! - `frame`: [`OwnedFrame`]; `texts`, `files`: the texts and paths of a table by their numbers;
 //! - `address_frames`: [`LineTable::frames_at`], the frames of an address;
-//! - `laws`: what the definitions say of each other, and of the table of a slice, as an index stores it: its symbols
+//! - `laws`: relations between the definitions, also those of the table of a slice, as an index stores it: its symbols
 //!   (`table_symbols`), and its lines after them (`SliceTable`).
 //!
 //! Decided:
 //!
-//! - No turn, unit or program is in the definition, so a table is the least one, and an image has one.
-//! - A location is a chain of frames: two addresses share it, and all its callers, only if all their frames are equal
-//!   from it outwards.
-//! - Each text stands once, with its length beside its place: none is scanned for its end.
+//! - The definition names no turn, unit or program. So a table has the fewest steps, and an image has one table.
+//! - A location is a chain of frames: two addresses share it, and all its callers, only if all their frames from it
+//!   outwards are equal.
+//! - Each text is stored once, with its length and its offset: none is searched for its end.
 //! - A step stores the lower half of its start alone: the upper half is that of its run, and most tables have one run.
 #![tactic(auto)]
 

@@ -1,4 +1,4 @@
-//! The head of a line table.
+//! The opening of a line table, which reads its head.
 
 ghost use Rattle.std.specs.Prelude.{◌≡◌, ◌+◌, ◌*◌, ℕ, List, IfOk, IfSome, MatchOption, None, Some, length, take, drop};
 ghost use Rattle.std.specs.Int.{w64, from_be_bytes};
@@ -16,7 +16,7 @@ use crate::table::{HEAD_LEN, LineTable};
 use byte_device::Placed;
 use table_checked_pages::{CheckFault, Pages, u64_be_at};
 
-/// What a head says: whether there are lines, and how many there are of each part.
+/// The fields of a head: whether there are lines, and the size of each part.
 #[derive(Clone, Copy)]
 struct Head {
     lines: u64,
@@ -28,7 +28,7 @@ struct Head {
     bytes: u64,
 }
 
-/// The head that these bytes are.
+/// The head with these bytes.
 fn head_of(bytes: &[u8]) -> Head
     requires { length bytes.now ≡ 56 }
     ensures lines { result.lines ≡ from_be_bytes w64 (take 8 (drop 0 bytes.now)) }
@@ -51,7 +51,7 @@ fn head_of(bytes: &[u8]) -> Head
 }
 
 impl Head {
-    /// How many bytes a table with this head has.
+    /// The size of a table with this head in bytes.
     fn len(&self) -> u128
         ensures { result ≡ 56 + 8 * self.now.runs + 8 * self.now.steps + 20 * self.now.locations
             + 12 * self.now.files + 8 * self.now.texts + self.now.bytes }
@@ -64,7 +64,7 @@ impl Head {
         HEAD_LEN as u128 + runs + steps + locations + files + texts + u128::from(self.bytes)
     }
 
-    /// The table with this head from an offset on, where it ends with so many bytes.
+    /// The table with this head at an offset; `None` if its end is not at `size`.
     fn table(&self, offset: u64, size: u64) -> Option<LineTable>
         ensures offset { IfSome result (λ table. table.offset ≡ offset) }
         ensures runs { IfSome result (λ table. table.runs ≡ self.now.runs) }
@@ -94,7 +94,8 @@ impl Head {
 }
 
 impl LineTable {
-    /// The line table that stands among stored bytes from an offset on, and ends them; none where it has no lines.
+    /// The line table at an offset of stored bytes, up to their end; `None` if it has no lines. The error is `Changed`
+    /// if a page differs from its digest or the head does not fit the size, `Device` or `OutOfMemory`.
     pub fn open<P: Placed>(
         device: &mut P,
         pages: &mut Pages,

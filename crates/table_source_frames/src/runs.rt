@@ -1,4 +1,4 @@
-//! The steps whose starts have a lower upper half than others, found by halving.
+//! The number of steps whose starts have an upper half below a limit, by binary search.
 
 ghost use Rattle.std.specs.Prelude.{◌≡◌, ◌<◌, ◌≤◌, ℕ, List, IfOk};
 ghost use Rattle.table_checked_pages.specs.Views.{KeepsPages};
@@ -45,7 +45,7 @@ impl<'t> Sought for UppersBelow<'t> {
 }
 
 impl LineTable {
-    /// The run of an index.
+    /// The run at an index.
     fn run_at<P: Placed>(
         &self,
         device: &mut P,
@@ -67,7 +67,7 @@ impl LineTable {
         })
     }
 
-    /// How many runs have an upper half below a limit. One run is read for each halving.
+    /// The number of runs with an upper half below a limit. One run is read in each step of the binary search.
     fn runs_below<P: Placed>(
         &self,
         device: &mut P,
@@ -86,7 +86,7 @@ impl LineTable {
         partition_point(device, pages, &sought, 0, self.runs)
     }
 
-    /// How many steps have a start whose upper half is below a limit.
+    /// The number of steps whose start has an upper half below a limit.
     pub(crate) fn steps_below<P: Placed>(
         &self,
         device: &mut P,

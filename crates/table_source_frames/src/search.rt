@@ -1,4 +1,4 @@
-//! The step of an address, found by halving.
+//! The step of an address, by binary search.
 
 ghost use Rattle.std.specs.Prelude.{◌≡◌, ◌+◌, ◌<◌, ◌≤◌, ℕ, List, Option, IfOk};
 ghost use Rattle.table_checked_pages.specs.Views.{KeepsPages};
@@ -14,7 +14,7 @@ use crate::table::LineTable;
 use byte_device::Placed;
 use table_checked_pages::{CheckFault, Pages, Sought, partition_point, u32_be_at};
 
-/// The steps of a table whose lower half is not above that of an address.
+/// The steps of a table whose lower half is not above the lower half of an address.
 #[derive(Drop)]
 struct LowersUpTo<'t> {
     table: &'t LineTable,
@@ -49,7 +49,7 @@ impl<'t> Sought for LowersUpTo<'t> {
 }
 
 impl LineTable {
-    /// The step of an index.
+    /// The step at an index.
     fn step_at<P: Placed>(
         &self,
         device: &mut P,
@@ -71,8 +71,8 @@ impl LineTable {
         })
     }
 
-    /// How many steps start at an address or below it: those with a lower upper half, and of those with the same one as
-    /// many as have no higher lower half. One step is read for each halving.
+    /// The number of steps that start at or below an address: those with a smaller upper half, and those with the same
+    /// upper half and no greater lower half. One step is read in each step of the binary search.
     fn steps_up_to<P: Placed>(
         &self,
         device: &mut P,
@@ -97,7 +97,7 @@ impl LineTable {
         partition_point(device, pages, &sought, low, high)
     }
 
-    /// The number of the location of an address; 0 where it has no frames.
+    /// The number of the location of an address; 0 if it has no frames.
     pub(crate) fn location_for<P: Placed>(
         &self,
         device: &mut P,

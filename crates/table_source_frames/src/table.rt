@@ -1,14 +1,14 @@
-//! A line table, and where its parts stand.
+//! A line table, and the offsets of its parts.
 
 ghost use Rattle.std.specs.Prelude.{◌≡◌, ◌+◌, ◌*◌, ◌<◌, ◌^◌};
 
 use crate::row::{FILE_LEN, LOCATION_LEN, RUN_LEN, STEP_LEN, TEXT_LEN};
 
-/// How many bytes the head has.
+/// The size of the head in bytes.
 pub const HEAD_LEN: usize = 56;
 
-/// The line table of a slice, opened: its head was read. Its bytes are those of stored pages from an offset on, which
-/// are handed in with their device at each call.
+/// The line table of a slice, after its head was read. Its bytes are those of stored pages from an offset on; each call
+/// passes the pages and their device.
 #[derive(Clone, Copy, Drop)]
 pub struct LineTable {
     pub(crate) offset: u64,
@@ -17,7 +17,7 @@ pub struct LineTable {
     pub(crate) locations: u64,
     pub(crate) files: u64,
     pub(crate) texts: u64,
-    // How many bytes the texts have together.
+    // The size of all texts in bytes.
     pub(crate) bytes: u64,
     ghost size: { offset + 56 + 8 * runs + 8 * steps + 20 * locations + 12 * files + 8 * texts + bytes < 2 ^ 64 },
 }

@@ -18,7 +18,7 @@ use byte_device::Placed;
 use memory::Heap;
 use table_checked_pages::{CheckFault, Pages, u32_be_at};
 
-/// So many zeros.
+/// `count` zeros. The error is `OutOfMemory`.
 fn zeros(heap: Heap, count: usize) -> Result<Vec<u8, Heap>, CheckFault>
     ensures long { IfOk result (λ zeros. length zeros.items ≡ count) }
     ensures fault { IfErr result (λ fault. fault ≡ CheckFault.OutOfMemory) }
@@ -31,7 +31,7 @@ fn zeros(heap: Heap, count: usize) -> Result<Vec<u8, Heap>, CheckFault>
 }
 
 impl LineTable {
-    /// The row of the text of an index.
+    /// The row of the text at an index.
     fn text_row<P: Placed>(
         &self,
         device: &mut P,
@@ -55,7 +55,7 @@ impl LineTable {
         })
     }
 
-    /// The text of a row: so many bytes as it says, and no more, are read.
+    /// The text of a row: exactly as many bytes are read as the row states.
     fn text_of<P: Placed>(
         &self,
         heap: Heap,
@@ -87,7 +87,7 @@ impl LineTable {
         Ok(bytes)
     }
 
-    /// The text of a number.
+    /// The text with a number.
     pub(crate) fn text<P: Placed>(
         &self,
         heap: Heap,
@@ -111,7 +111,7 @@ impl LineTable {
         Ok(bytes)
     }
 
-    /// The text of a number, or none where that is 0.
+    /// The text with a number; `None` for 0.
     pub(crate) fn maybe_text<P: Placed>(
         &self,
         heap: Heap,

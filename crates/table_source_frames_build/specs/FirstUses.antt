@@ -1,9 +1,9 @@
--- Numbers that numbers get anew in the order of their first use. No contract of a public function has these words.
+-- New numbers for numbers in the order of their first use. No contract of a public function uses these definitions.
 use Rattle.std.specs.Prelude.{ℕ, zero, suc, List, [], ◌∷◌, ◌≡◌, ◌<◌, ◌^◌, length, nat_eq, slice_index}
 use Rattle.table_source_frames.specs.Numbering.{number_in}
 use Rattle.table_source_frames_build.specs.Numbering.{IsNumber}
 
--- each number, from 1 on, has this new one; 0 where it is not used
+-- each number, from 1 on, has this new number; 0 if it is not used
 pub record AreGiven (given order : List ℕ) : Type 0 where
   pub each : (index : ℕ) → index < length given → slice_index given index ≡ number_in nat_eq order (suc index)
   pub within : (place : ℕ) → place < length order → IsNumber (length given) (slice_index order place)

@@ -7,44 +7,44 @@ use Rattle.table_source_frames_build.specs.Numbering.{IsNumber}
 use Rattle.table_source_frames_build.specs.declared.keys.FileKey.{FileKey}
 use Rattle.table_source_frames_build.specs.declared.keys.LocationKey.{LocationKey}
 
--- texts, and files and locations by the numbers of what they have
+-- texts; files and locations by the numbers of their parts
 pub record KeptRecord : Type 0 where
   pub texts : List (List ℕ)
   pub files : List FileKey
   pub locations : List LocationKey
 
--- the one of a number, or another one
+-- the element with a number, or another element
 abbrev pub numbered_or : {A : Type 0} → List A → A → ℕ → A
 numbered_or all other zero = other
 numbered_or all other (suc index) = slice_index_or all index other
 
--- what a number tells of, by this; 0 tells of nothing
+-- the value of a number; 0 has none
 abbrev pub at_number : {A : Type 0} → (ℕ → A) → ℕ → Option A
 at_number told zero = None
 at_number told (suc index) = Some (told (suc index))
 
--- the text of a number
+-- the text with a number
 abbrev pub text_at : KeptRecord → ℕ → List ℕ
 text_at k number = numbered_or k.texts [] number
 
--- what is kept of the file of a number
+-- the key of the file with a number
 abbrev pub file_key_at : KeptRecord → ℕ → FileKey
 file_key_at k number = numbered_or k.files (record { base = 0; directory = 0; name = 0 }) number
 
--- the path that a key tells of
+-- the path with a key
 abbrev pub path_of_key : KeptRecord → FileKey → PathRecord
 path_of_key k key = record { base = text_at k key.base; directory = text_at k key.directory; name = text_at k key.name }
 
--- the path of the file of a number
+-- the path of the file with a number
 abbrev pub file_at : KeptRecord → ℕ → PathRecord
 file_at k number = path_of_key k (file_key_at k number)
 
--- what is kept of the location of a number
+-- the key of the location with a number
 abbrev pub location_key_at : KeptRecord → ℕ → LocationKey
 location_key_at k number =
     numbered_or k.locations (record { name = 0; file = 0; line = 0; column = 0; caller = 0 }) number
 
--- the frame that a key tells of
+-- the frame with a key
 abbrev pub frame_of_key : KeptRecord → LocationKey → FrameRecord
 frame_of_key k key =
     record {
@@ -54,7 +54,7 @@ frame_of_key k key =
       column = key.column;
     }
 
--- the first so many numbers of a location and of those that it is inlined into, one into the next
+-- the numbers of a location and of those that it is inlined into, the innermost first; at most `room` of them
 unfoldable pub callers_within : KeptRecord → ℕ → ℕ → List ℕ
 callers_within k zero number = []
 callers_within k (suc room) zero = []
@@ -64,7 +64,7 @@ callers_within k (suc room) (suc index) = suc index ∷ callers_within k room (l
 unfoldable pub callers_of : KeptRecord → ℕ → List ℕ
 callers_of k number = callers_within k number number
 
--- the first so many frames of a location, the innermost first
+-- the frames of a location, the innermost first; at most `room` of them
 unfoldable pub chain_within : KeptRecord → ℕ → ℕ → List FrameRecord
 chain_within k zero number = []
 chain_within k (suc room) zero = []
@@ -76,19 +76,19 @@ chain_within k (suc room) (suc index) =
 unfoldable pub chain_at : KeptRecord → ℕ → List FrameRecord
 chain_at k number = chain_within k number number
 
--- a key of a file has numbers of texts
+-- each part of a file's key is the number of a text
 pub record IsFileKey (k : KeptRecord) (key : FileKey) : Type 0 where
   pub base : IsNumber (length k.texts) key.base
   pub directory : IsNumber (length k.texts) key.directory
   pub name : IsNumber (length k.texts) key.name
 
--- a key of the location of a number has numbers of what is there, or none
+-- each part of the key of the location with a number is the number of a kept thing, or 0
 pub record IsLocationKey (k : KeptRecord) (number : ℕ) (key : LocationKey) : Type 0 where
   pub name : key.name ≤ length k.texts
   pub file : key.file ≤ length k.files
   pub caller : key.caller < number
 
--- each thing is kept once, and each number tells of something
+-- each thing is kept once, and each number in a key is that of a kept thing
 pub record IsKept (k : KeptRecord) : Type 0 where
   pub texts : (m n : ℕ) → IsNumber (length k.texts) m → IsNumber (length k.texts) n
       → text_at k m ≡ text_at k n → m ≡ n
@@ -99,19 +99,19 @@ pub record IsKept (k : KeptRecord) : Type 0 where
   pub each_file : (n : ℕ) → IsNumber (length k.files) n → IsFileKey k (file_key_at k n)
   pub each_location : (n : ℕ) → IsNumber (length k.locations) n → IsLocationKey k n (location_key_at k n)
 
--- an element has this number in the new list, which is the old one, or this and the element, if it was not there
+-- an element has this number in the new list, which is the old list, or the old list and the element, if it was missing
 pub record IsNumberedIn {A : Type 0} (other : A) (old : List A) (x : A) (number : ℕ) (new : List A) : Type 0 where
   pub is_number : IsNumber (length new) number
   pub is : numbered_or new other number ≡ x
   pub kept : (new ≡ old)
       ⊎ ((new ≡ old ++ x ∷ []) × ((n : ℕ) → IsNumber (length old) n → numbered_or old other n ≡ x → ⊥))
 
--- a list goes on as another one
+-- the new list begins with the old one
 pub record GoesOn {A : Type 0} (old new : List A) : Type 0 where
   pub more : List A
   pub is : new ≡ old ++ more
 
--- something is added, or nothing
+-- nothing is removed or changed
 pub record Grows (old new : KeptRecord) : Type 0 where
   pub texts : GoesOn old.texts new.texts
   pub files : GoesOn old.files new.files
@@ -137,12 +137,12 @@ pub record IsFile (k : KeptRecord) (number : ℕ) (path : Option PathRecord) : T
   pub within : number ≤ length k.files
   pub is : at_number (file_at k) number ≡ path
 
--- the number of a location, of which these are the frames
+-- the number of a location with these frames
 pub record IsLocation (k : KeptRecord) (number : ℕ) (frames : List FrameRecord) : Type 0 where
   pub within : number ≤ length k.locations
   pub is : chain_at k number ≡ frames
 
--- what numbers told of before they tell of now
+-- each number still has its name, path or frames
 pub record KeepsNumbers (old new : KeptRecord) : Type 0 where
   pub names : (number : ℕ) (name : Option (List ℕ)) → IsName old number name → IsName new number name
   pub paths : (number : ℕ) (path : Option PathRecord) → IsFile old number path → IsFile new number path

@@ -1,4 +1,4 @@
--- The kept parts of frames, without the places of texts.
+-- The kept parts of frames, without the addresses of texts in memory.
 use Rattle.std.specs.Prelude.{map}
 use Rattle.table_source_frames_build.specs.Kept.{KeptRecord}
 use Rattle.table_source_frames_build.specs.declared.kept.Kept.{Kept}

@@ -1,4 +1,4 @@
--- The bytes of the parts of a table, by numbers. No contract of a public function has these words.
+-- The bytes of the parts of a table, by numbers. No contract of a public function uses these definitions.
 use Rattle.std.specs.Prelude.{ℕ, List, ◌++◌, ◌≡◌, flat_map, length, map, nat_eq}
 use Rattle.std.specs.Int.{w32, to_be_bytes}
 use Rattle.table_source_frames.specs.Numbering.{number_in}
@@ -30,7 +30,7 @@ file_row texts key =
     ++ (to_be_bytes w32 (number_in nat_eq texts key.directory)
     ++ to_be_bytes w32 (number_in nat_eq texts key.name))
 
--- the texts of numbers
+-- the texts with these numbers
 abbrev pub texts_at : KeptRecord → List ℕ → List (List ℕ)
 texts_at k texts = map (text_at k) texts
 
@@ -42,7 +42,7 @@ location_rows k locations files texts numbers =
 abbrev pub file_rows : KeptRecord → List ℕ → List ℕ → List ℕ
 file_rows k texts numbers = flat_map (λ n. file_row texts (file_key_at k n)) numbers
 
--- the parts number what is kept
+-- the parts have one place for each kept text, file and location
 pub record AreCounts (k : KeptRecord) (parts : Parts) : Type 0 where
   pub locations : length parts.locations.given.items ≡ length k.locations
   pub files : length parts.files.given.items ≡ length k.files

@@ -1,4 +1,4 @@
--- Steps of the code, as the definitions have them.
+-- Steps in the code, as the definitions have them.
 use Rattle.std.specs.Prelude.{ℕ, List, [], ◌∷◌, ◌==◌, ◌≤◌, All, if◌then◌else◌, length, map}
 use Rattle.table_source_frames.specs.Steps.{StepRecord}
 use Rattle.table_source_frames_build.specs.Kept.{KeptRecord, chain_at}
@@ -8,15 +8,15 @@ use Rattle.table_source_frames_build.specs.declared.step.Step.{Step}
 abbrev pub step_of : KeptRecord → Step → StepRecord
 step_of k step = record { start = step.start; frames = chain_at k step.location }
 
--- the addresses at which steps stand
+-- the addresses at which steps begin
 abbrev pub step_starts : List Step → List ℕ
 step_starts steps = map (λ (s : Step). s.start) steps
 
--- the locations of steps are there, or 0
+-- each location of a step exists, or is 0
 abbrev pub HaveLocations : KeptRecord → List Step → Type 0
 HaveLocations k steps = All (λ (s : Step). s.location ≤ length k.locations) steps
 
--- steps, after this location, without those whose location is that of the one before
+-- the steps after this location, without each step whose location is that of the step before
 unfoldable pub changed_after : ℕ → List Step → List Step
 changed_after before [] = []
 changed_after before (step ∷ steps) =

@@ -1,9 +1,9 @@
--- A store of lines, as the definitions have it.
+-- A line store, as the definitions have it.
 use Rattle.std.specs.Prelude.{List}
 use Rattle.table_source_frames.specs.Steps.{StepRecord}
 use Rattle.table_source_frames_build.specs.Kept.{KeptRecord}
 
--- a store: the frames of addresses as they came, and what frames have, told by number
+-- a store: the frames of addresses in the order of arrival, and the numbered texts, files and locations
 pub record StoreRecord : Type 0 where
   pub taken : List StepRecord
   pub kept : KeptRecord

@@ -1,4 +1,4 @@
--- The whole bytes of a table, by numbers. No contract of a public function has these words.
+-- The whole bytes of a table, by numbers. No contract of a public function uses these definitions.
 use Rattle.std.specs.Prelude.{ℕ, List, [], ◌++◌, ◌≡◌, flat_map, length, nat_eq, Option, Some, None}
 use Rattle.std.specs.Int.{w64, to_be_bytes}
 use Rattle.std.specs.List.{concat}
@@ -13,7 +13,7 @@ use Rattle.table_source_frames_build.specs.PartNumbers.{file_uses, location_uses
 use Rattle.table_source_frames_build.specs.StepViews.{step_starts}
 use Rattle.table_source_frames_build.specs.declared.step.Step.{Step}
 
--- these are the numbers that the locations, files and texts of steps get
+-- the numbers of the locations, files and texts of steps
 pub record AreOrders (k : KeptRecord) (steps : List Step) (locations files texts : List ℕ) : Type 0 where
   pub locations_are : locations ≡ numbered_after nat_eq [] (location_uses k steps)
   pub files_are : files ≡ numbered_after nat_eq [] (file_uses k locations)
@@ -37,7 +37,7 @@ text_of_parts k steps locations files texts =
     ++ (text_rows 0 (texts_at k texts)
     ++ concat (texts_at k texts))))))
 
--- the bytes of the table of steps, if it fits into so many
+-- the bytes of the table of steps, if it fits into `room` bytes
 abbrev pub IsTextIfFits : ℕ → List StepRecord → Option (List ℕ) → Type 0
 IsTextIfFits room steps None = FitsLines room steps → ⊥
 IsTextIfFits room steps (Some bytes) = FitsLines room steps × (bytes ≡ line_text steps)

@@ -6,7 +6,7 @@ ghost use Rattle.table_source_frames_build.specs.StepViews.{changed_after};
 use crate::step::Step;
 use memory::{Heap, NoMemory};
 
-/// The steps whose location is another one than that of the step before; before the first there is none.
+/// The steps whose location differs from that of the step before; before the first step there is no location.
 pub(crate) fn changed_steps(heap: Heap, steps: &[Step]) -> Result<Vec<Step, Heap>, NoMemory>
     ensures { IfOk result (λ changed. changed.items ≡ changed_after 0 steps.now) }
 {

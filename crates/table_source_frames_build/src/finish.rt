@@ -21,7 +21,7 @@ use crate::store::LineStore;
 use memory::{Heap, NoMemory};
 use table_source_frames::HEAD_LEN;
 
-/// The head of a table that has no lines.
+/// The head of a table without lines.
 #[tactic(auto, unfolding(table_source_frames::specs::LineTable::no_lines))]
 fn no_lines(heap: Heap) -> Result<Vec<u8, Heap>, NoMemory>
     ensures { IfOk result (λ bytes. bytes.items ≡ no_lines) }
@@ -32,7 +32,7 @@ fn no_lines(heap: Heap) -> Result<Vec<u8, Heap>, NoMemory>
 }
 
 impl Parts {
-    /// Adds the head of the table of steps, whose texts have so many bytes.
+    /// Adds the head of the table of these steps; `len` is the size of its texts in bytes.
     fn push_head(&self, text: &mut Vec<u8, Heap>, steps: &[Step], len: u64) -> Result<(), NoMemory>
         ensures { OnOk result (text.new.items ≡ text.old.items ++ head_of
             (length (runs_after 0 (step_starts steps.now))) (length steps.now) (length self.now.locations.order.items)
@@ -49,7 +49,7 @@ impl Parts {
 }
 
 impl<'a> Kept<'a> {
-    /// The table of steps with these parts, whose texts have so many bytes.
+    /// The table of these steps with these parts; `len` is the size of its texts in bytes.
     fn table_text(
         &self,
         heap: Heap,
@@ -76,7 +76,8 @@ impl<'a> Kept<'a> {
         Ok(text)
     }
 
-    /// The table of steps, if it fits into so many bytes, and its numbers into theirs.
+    /// The table of these steps; `None` if it has more than `room` bytes, or if one of its numbers does not fit into
+    /// four bytes.
     fn table_within(
         &self,
         heap: Heap,
@@ -104,9 +105,9 @@ impl<'a> Kept<'a> {
 }
 
 impl<'a> LineStore<'a> {
-    /// The table of the least steps that tell what was taken, if it fits into `room` bytes; else the head of a table
-    /// that has no lines. It takes the time of a sort of the addresses, and the memory of the table, of the steps and
-    /// of 8 bytes for each thing that is kept.
+    /// The table of the fewest steps that state the added frames, if it fits into `room` bytes; else the head of a
+    /// table without lines. The time is that of a sort of the addresses; the memory is that of the table, of the steps
+    /// and of 8 bytes for each text, file and location.
     pub fn finish(self, heap: Heap, room: u64) -> Result<Vec<u8, Heap>, NoMemory>
         ensures { IfOk result (λ bytes. IsWritten room self.entry.taken bytes.items) }
     {

@@ -1,4 +1,4 @@
-//! Numbers, from 1 on, that numbers get anew in the order of their first use.
+//! New numbers, from 1 on, for numbers in the order of their first use.
 
 ghost use Rattle.std.specs.Prelude.{◌≡◌, ◌≤◌, ◌<◌, [], All, IfOk, OnOk, length, nat_eq, reverse};
 ghost use Rattle.table_source_frames.specs.Numbering.{number_in, numbered_after, numbered_with};
@@ -7,7 +7,7 @@ ghost use Rattle.table_source_frames_build.specs.FirstUses.{AreGiven, some_numbe
 
 use memory::{Heap, NoMemory};
 
-/// The numbers that are used, in the order of their first use, and the number that each got by it.
+/// The numbers that are used, in the order of their first use, and the new number of each.
 #[derive(Drop)]
 pub(crate) struct FirstUses {
     given: Vec<u32, Heap>,
@@ -16,7 +16,7 @@ pub(crate) struct FirstUses {
 }
 
 impl FirstUses {
-    /// None of so many numbers is used.
+    /// `count` numbers, none of which is used.
     #[tactic(auto, unfolding(table_source_frames::specs::Numbering::number_in))]
     pub fn new(heap: Heap, count: usize) -> Result<FirstUses, NoMemory>
         ensures count { IfOk result (λ uses. length uses.given.items ≡ count) }
@@ -46,7 +46,7 @@ impl FirstUses {
         self.given[number as usize - 1]
     }
 
-    /// Uses a number.
+    /// Uses a number: it gets the next new number, unless it has one.
     pub fn take(&mut self, number: u32) -> Result<(), NoMemory>
         requires some { 0 < number }
         requires within { number ≤ length self.old.given.items }
@@ -78,7 +78,7 @@ impl FirstUses {
         self.take(number)
     }
 
-    /// Uses numbers, the last one first, until none is left.
+    /// Removes each number from the end of the list and uses it, until the list is empty.
     pub fn take_back(&mut self, numbers: &mut Vec<u32, Heap>) -> Result<(), NoMemory>
         requires { All (IsNumber (length self.old.given.items)) numbers.old.items }
         ensures count { length self.new.given.items ≡ length self.old.given.items }

@@ -1,4 +1,4 @@
-//! What frames have, each thing once and told by number.
+//! The texts, files and locations of frames, each stored once and named by its number.
 
 ghost use Rattle.std.specs.Prelude.{map};
 ghost use Rattle.table_source_frames_build.specs.Kept.{IsKept};
@@ -27,7 +27,7 @@ impl<'a> Kept<'a> {
     ghost use Rattle.table_source_frames_build.specs.Kept.{frame_of_key};
     ghost use Rattle.table_source_frames_build.specs.KeptViews.{kept_view};
 
-    /// Nothing.
+    /// No text, file or location.
     pub fn new(heap: Heap) -> Kept<'a>
         ensures { kept_view result ≡ record { texts = []; files = []; locations = [] } }
     {
@@ -46,7 +46,7 @@ impl<'a> Kept<'a> {
         self.texts.number(TextKey::of(text))
     }
 
-    /// The number of a name, or 0.
+    /// The number of a name; 0 for no name.
     pub fn name(&mut self, name: Option<&'a [u8]>) -> Result<u32, NoMemory>
         ensures grows { Grows (kept_view self.old) (kept_view self.new) }
         ensures is { IfOk result (λ number. IsName (kept_view self.new) number (option_map (λ n. n.now) name.entry)) }
@@ -72,7 +72,7 @@ impl<'a> Kept<'a> {
         })
     }
 
-    /// The number of a file, or 0.
+    /// The number of a file; 0 for no file.
     pub fn file(&mut self, path: Option<PathParts<'a>>) -> Result<u32, NoMemory>
         ensures grows { Grows (kept_view self.old) (kept_view self.new) }
         ensures is { IfOk result (λ number. IsFile (kept_view self.new) number (option_map path_view path.entry)) }
@@ -84,7 +84,7 @@ impl<'a> Kept<'a> {
         self.files.number(key)
     }
 
-    /// The number of a location, by what is kept of it.
+    /// The number of the location with this key.
     pub fn location_number(&mut self, key: LocationKey) -> Result<u32, NoMemory>
         requires name { key.name ≤ length (kept_view self.old).texts }
         requires file { key.file ≤ length (kept_view self.old).files }

@@ -1,9 +1,9 @@
-//! What is kept of a text, of a file and of a location.
+//! The keys of texts, files and locations.
 
 ghost use Rattle.std.specs.Prelude.{◌≡◌};
 ghost use Rattle.table_source_frames_build.specs.Marks.{mark_of};
 
-/// A text, after a mark of it: most texts differ in it, and so are told apart by one number.
+/// A text, after its mark. Most texts differ in their marks, so that one number distinguishes them.
 #[derive(Clone, Copy, PartialEq, Eq, PartialOrd, Ord)]
 pub(crate) struct TextKey<'a> {
     pub mark: u64,
@@ -45,9 +45,9 @@ pub(crate) struct FileKey {
     pub name: u32,
 }
 
-/// A location: the number of the location that it is inlined into (0: none), which is smaller than its own, the number
-/// of the name of its function (0: none), its line and column, and the number of its file (0: none). Its caller comes
-/// first, so that locations which come one after another are near each other in order.
+/// A location: the number of its caller, the location that it is inlined into (0: none), which is smaller than its own
+/// number; the number of its function's name (0: none); its line and column; the number of its file (0: none). The
+/// caller is first, so that locations which are added one after another are near each other in the order.
 #[derive(Clone, Copy, PartialEq, Eq, PartialOrd, Ord)]
 pub(crate) struct LocationKey {
     pub caller: u32,

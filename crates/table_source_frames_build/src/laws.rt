@@ -1,4 +1,4 @@
-//! What the definitions say of each other, and why it is enough to take the turns of an image.
+//! Relations between the definitions: the turns of an image suffice for its table.
 
 ghost use Rattle.std.specs.Prelude.{◌<◌, ◌^◌, ℕ, List, All, Contains};
 ghost use Rattle.dwarf_source_frames.specs.AddressFrames.{AreFramesOf};
@@ -12,8 +12,8 @@ ghost use Rattle.table_source_frames_build.specs.TurnSteps.{steps_of_turns};
 use dwarf_frame_changes::laws::{empty_before_turns, same_between_turns};
 use dwarf_source_frames::laws::one_list_of_frames;
 
-/// Where the frames of addresses were taken, and those of an image change at no other address, the least steps are
-/// those of the image.
+/// If the frames of addresses were added, and those of an image change at no other address, the fewest steps are those
+/// of the image.
 pub fn least_steps_are_frame_steps()
     ensures { (image : List ℕ) (added steps : List StepRecord) → AreLeastSteps added steps
         → All (λ s. s.start < 2 ^ 64) added → All (λ s. AreFramesOf image s.start s.frames) added
@@ -23,7 +23,7 @@ pub fn least_steps_are_frame_steps()
     one_list_of_frames();
 }
 
-/// Where the frames at all turns are known, those of an address that is no turn are those of the address before.
+/// If the frames at all turns are known, the frames at an address that is no turn are those at the address before.
 pub fn frames_stay_between_turns()
     ensures { (image : List ℕ) (turns : List TurnRecord) (a : ℕ) → AreTurnsOf image turns → a < 2 ^ 64
         → (IsTurn image a → ⊥) → Stays image a }
@@ -32,7 +32,7 @@ pub fn frames_stay_between_turns()
     empty_before_turns();
 }
 
-/// The least steps that tell the frames at the turns of an image are the steps of the image.
+/// The fewest steps that state the frames at the turns of an image are the steps of the image.
 pub fn steps_by_turns()
     ensures { (image : List ℕ) (turns : List TurnRecord) (steps : List StepRecord) → AreTurnsOf image turns
         → AreLeastSteps (steps_of_turns turns) steps → AreFrameSteps image steps }
@@ -41,7 +41,7 @@ pub fn steps_by_turns()
     least_steps_are_frame_steps();
 }
 
-/// What a store writes that took the turns of an image is the line table of the image.
+/// A store that accepted the turns of an image writes the line table of the image.
 pub fn table_by_turns()
     ensures { (image : List ℕ) (turns : List TurnRecord) (bytes : List ℕ) → AreTurnsOf image turns
         → IsWritten (room_of image) (steps_of_turns turns) bytes → IsLineTable image bytes }

@@ -1,4 +1,4 @@
-//! What is kept under a number.
+//! The key of a number.
 
 ghost use Rattle.std.specs.Prelude.{◌≡◌, length};
 ghost use Rattle.table_source_frames_build.specs.Kept.{file_key_at, location_key_at, text_at};
@@ -9,7 +9,7 @@ use crate::kept::Kept;
 use crate::keys::{FileKey, LocationKey};
 
 impl<'a> Kept<'a> {
-    /// The text of a number.
+    /// The text with a number.
     pub fn text_of(&self, number: u32) -> &'a [u8]
         requires { IsNumber (length (kept_view self.now).texts) number }
         ensures { result.now ≡ text_at (kept_view self.now) number }
@@ -17,7 +17,7 @@ impl<'a> Kept<'a> {
         self.texts.key(number).text
     }
 
-    /// The file of a number.
+    /// The key of the file with a number.
     pub fn file_key_of(&self, number: u32) -> FileKey
         requires { IsNumber (length (kept_view self.now).files) number }
         ensures { result ≡ file_key_at (kept_view self.now) number }
@@ -25,7 +25,7 @@ impl<'a> Kept<'a> {
         self.files.key(number)
     }
 
-    /// The location of a number.
+    /// The key of the location with a number.
     pub fn location_key_of(&self, number: u32) -> LocationKey
         requires { IsNumber (length (kept_view self.now).locations) number }
         ensures { result ≡ location_key_at (kept_view self.now) number }

@@ -11,7 +11,7 @@ use macho_image::Image;
 use memory::{Heap, NoMemory};
 use table_source_frames::HEAD_LEN;
 
-/// How many bytes are allowed for the table of an image.
+/// The largest size in bytes of the table of an image.
 fn room_for(image: &Image) -> u64
     ensures { result ≡ room_of image.now }
 {
@@ -20,9 +20,9 @@ fn room_for(image: &Image) -> u64
     if most < least { least } else { most }
 }
 
-/// The line table of an image: that of its steps, if it fits into four times the bytes of the image, and else one that
-/// has no lines. It takes the time of [`push_turns`] and of a sort of the turns, and the memory of what frames have,
-/// each thing once, of 16 bytes for each turn, and of the table.
+/// The line table of an image: the table of its steps, if it fits into four times the bytes of the image, and else one
+/// without lines. The time is that of [`push_turns`] and of a sort of the turns; the memory is that of the texts, files
+/// and locations of frames, each stored once, of 16 bytes for each turn, and of the table.
 pub fn line_table(heap: Heap, image: &Image) -> Result<Vec<u8, Heap>, NoMemory>
     ensures { IfOk result (λ bytes. IsLineTable image.now bytes.items) }
 {

@@ -1,4 +1,4 @@
-//! Numbers, from 1 on, that keys get as they first come.
+//! Numbers of keys, from 1 on, in the order of arrival.
 
 ghost use Rattle.std.specs.Prelude.{◌≡◌, ◌-◌, [], IfOk, OnErr, Some, length, slice_get};
 ghost use Rattle.table_source_frames_build.specs.Numbering.{IsNumber};
@@ -8,7 +8,7 @@ use memory::{Heap, NoMemory};
 use std::collections::BTreeMap;
 use std::marker::Model;
 
-/// Keys of which each has a number, from 1 on, in the order in which they first came. A contract sees the keys.
+/// Keys and their numbers, from 1 on, in the order of arrival. A contract sees the keys.
 #[derive(Drop)]
 pub(crate) struct Numbers<K: Ord + Copy + Drop> {
     by_key: BTreeMap<K, u32, Heap>,
@@ -27,7 +27,7 @@ impl<K: Ord + Copy + Drop> Model for Numbers<K> {
 }
 
 impl<K: Ord + Copy + Drop> Numbers<K> {
-    /// No key.
+    /// No keys.
     pub fn new(heap: Heap) -> Numbers<K>
         ensures { result ≡ [] }
     {
@@ -37,7 +37,8 @@ impl<K: Ord + Copy + Drop> Numbers<K> {
         }
     }
 
-    /// The number of a key; a new one gets the next. Past 2^32 - 1 keys there is no memory.
+    /// The number of a key; a new key gets the next number. The error is `NoMemory` if there are more than 2^32 - 1
+    /// keys.
     pub fn number(&mut self, key: K) -> Result<u32, NoMemory>
         ensures numbered { IfOk result (λ number. IsNumbered K.cmp self.old key number self.new) }
         ensures unchanged { OnErr result (self.new ≡ self.old) }
@@ -56,14 +57,14 @@ impl<K: Ord + Copy + Drop> Numbers<K> {
         Ok(number)
     }
 
-    /// How many keys there are.
+    /// The number of keys.
     pub fn len(&self) -> usize
         ensures { result ≡ length self.now }
     {
         self.keys.len()
     }
 
-    /// The key of a number.
+    /// The key with a number.
     pub fn key(&self, number: u32) -> K
         requires { IsNumber (length self.now) number }
         ensures { slice_get self.now (number - 1) ≡ Some result }

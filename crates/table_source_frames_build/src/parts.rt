@@ -1,4 +1,4 @@
-//! The numbers of what a table has, in the order of their first use.
+//! The numbers of a table's parts, in the order of their first use.
 
 ghost use Rattle.std.specs.Prelude.{◌≡◌, ◌≤◌, ◌++◌, [], IfOk, OnOk, length, nat_eq};
 ghost use Rattle.table_source_frames.specs.Numbering.{numbered_after};
@@ -40,7 +40,7 @@ impl<'a> Kept<'a> {
         Ok(())
     }
 
-    /// The locations that steps use.
+    /// The locations that the steps use.
     pub fn used_locations(&self, heap: Heap, steps: &[Step]) -> Result<FirstUses, NoMemory>
         requires { HaveLocations (kept_view self.now) steps.now }
         ensures count { IfOk result (λ uses. length uses.given.items ≡ length (kept_view self.now).locations) }
@@ -56,7 +56,7 @@ impl<'a> Kept<'a> {
         Ok(uses)
     }
 
-    /// The files that locations use.
+    /// The files that the locations use.
     pub fn used_files(&self, heap: Heap, locations: &[u32]) -> Result<FirstUses, NoMemory>
         requires { AreNumbers (length (kept_view self.now).locations) locations.now }
         ensures count { IfOk result (λ uses. length uses.given.items ≡ length (kept_view self.now).files) }
@@ -70,7 +70,7 @@ impl<'a> Kept<'a> {
         Ok(uses)
     }
 
-    /// Uses the texts of the names of locations.
+    /// Uses the texts of the names of these locations.
     fn take_names(&self, uses: &mut FirstUses, locations: &[u32]) -> Result<(), NoMemory>
         requires count { length uses.old.given.items ≡ length (kept_view self.now).texts }
         requires locations { AreNumbers (length (kept_view self.now).locations) locations.now }
@@ -84,7 +84,7 @@ impl<'a> Kept<'a> {
         Ok(())
     }
 
-    /// Uses the texts of a path.
+    /// Uses the texts of this path.
     fn take_path(&self, uses: &mut FirstUses, key: FileKey) -> Result<(), NoMemory>
         requires count { length uses.old.given.items ≡ length (kept_view self.now).texts }
         requires key { IsFileKey (kept_view self.now) key }
@@ -97,7 +97,7 @@ impl<'a> Kept<'a> {
         uses.take(key.name)
     }
 
-    /// Uses the texts of files.
+    /// Uses the texts of these files.
     fn take_paths(&self, uses: &mut FirstUses, files: &[u32]) -> Result<(), NoMemory>
         requires count { length uses.old.given.items ≡ length (kept_view self.now).texts }
         requires files { AreNumbers (length (kept_view self.now).files) files.now }
@@ -111,7 +111,7 @@ impl<'a> Kept<'a> {
         Ok(())
     }
 
-    /// The texts that locations and files use: first those of names.
+    /// The texts that the locations and files use, those of names first.
     pub fn used_texts(
         &self,
         heap: Heap,
@@ -130,7 +130,7 @@ impl<'a> Kept<'a> {
         Ok(uses)
     }
 
-    /// The parts of the table of steps.
+    /// The parts of the table of these steps.
     pub fn parts(&self, heap: Heap, steps: &[Step]) -> Result<Parts, NoMemory>
         requires { HaveLocations (kept_view self.now) steps.now }
         ensures counts { IfOk result (λ parts. AreCounts (kept_view self.now) parts) }

@@ -16,7 +16,7 @@ use crate::step::Step;
 use memory::{Heap, NoMemory};
 use table_source_frames::halves::lower_half;
 
-/// Adds a number of eight bytes.
+/// Adds a number as eight bytes.
 pub(crate) fn push_u64(text: &mut Vec<u8, Heap>, number: u64) -> Result<(), NoMemory>
     ensures { OnOk result (text.new.items ≡ text.old.items ++ to_be_bytes w64 number) }
 {
@@ -24,7 +24,7 @@ pub(crate) fn push_u64(text: &mut Vec<u8, Heap>, number: u64) -> Result<(), NoMe
     Ok(())
 }
 
-/// Adds a number of four bytes.
+/// Adds a number as four bytes.
 pub(crate) fn push_u32(text: &mut Vec<u8, Heap>, number: u32) -> Result<(), NoMemory>
     ensures { OnOk result (text.new.items ≡ text.old.items ++ to_be_bytes w32 number) }
 {
@@ -33,7 +33,7 @@ pub(crate) fn push_u32(text: &mut Vec<u8, Heap>, number: u32) -> Result<(), NoMe
 }
 
 impl<'a> Kept<'a> {
-    /// Adds the rows of steps.
+    /// Adds the rows of these steps.
     pub fn push_steps(
         &self,
         text: &mut Vec<u8, Heap>,
@@ -72,7 +72,7 @@ impl<'a> Kept<'a> {
         push_u32(text, parts.locations.number_of(key.caller))
     }
 
-    /// Adds the rows of locations.
+    /// Adds the rows of these locations.
     pub fn push_locations(
         &self,
         text: &mut Vec<u8, Heap>,
@@ -108,7 +108,7 @@ impl<'a> Kept<'a> {
         push_u32(text, parts.texts.number_of(key.name))
     }
 
-    /// Adds the rows of files.
+    /// Adds the rows of these files.
     pub fn push_files(
         &self,
         text: &mut Vec<u8, Heap>,

@@ -10,7 +10,7 @@ use crate::step::Step;
 use memory::{Heap, NoMemory};
 use table_source_frames::halves::upper_half;
 
-/// Whether the step of an index is the last one of its run: the next one, if there is one, has another upper half.
+/// Whether the step at an index is the last of its run: it is the last step, or the next one has another upper half.
 #[tactic(auto, unfolding(table_source_frames::specs::Runs::go_on))]
 fn ends_run(steps: &[Step], index: usize) -> bool
     requires { index < length steps.now }
@@ -24,7 +24,7 @@ fn ends_run(steps: &[Step], index: usize) -> bool
     }
 }
 
-/// How many runs steps have.
+/// The number of runs of these steps.
 pub(crate) fn count_runs(steps: &[Step]) -> usize
     ensures { result ≡ length (runs_after 0 (step_starts steps.now)) }
 {
@@ -37,7 +37,7 @@ pub(crate) fn count_runs(steps: &[Step]) -> usize
     count
 }
 
-/// Adds the row of the run that the step of an index is the last one of, if it is the last one of a run.
+/// Adds the row of the run that ends with the step at an index; nothing if no run ends there.
 fn push_run(text: &mut Vec<u8, Heap>, steps: &[Step], index: usize) -> Result<(), NoMemory>
     requires inside { index < length steps.now }
     requires few { length steps.now < 2 ^ 32 }
@@ -52,7 +52,7 @@ fn push_run(text: &mut Vec<u8, Heap>, steps: &[Step], index: usize) -> Result<()
     push_u32(text, (index + 1) as u32)
 }
 
-/// Adds the rows of runs.
+/// Adds the rows of all runs.
 pub(crate) fn push_runs(text: &mut Vec<u8, Heap>, steps: &[Step]) -> Result<(), NoMemory>
     requires { length steps.now < 2 ^ 32 }
     ensures { OnOk result (

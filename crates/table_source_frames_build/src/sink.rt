@@ -1,11 +1,11 @@
-//! A store of lines as a sink of turns.
+//! A line store as a sink of turns.
 
 use crate::store::LineStore;
 use dwarf_frame_changes::FrameSink;
 use dwarf_lines::PathParts;
 use memory::NoMemory;
 
-/// A store that takes turns.
+/// A store that accepts turns.
 #[derive(Drop)]
 pub(crate) struct StoreSink<'a> {
     pub store: LineStore<'a>,
@@ -16,14 +16,14 @@ impl<'a> FrameSink<'a> for StoreSink<'a> {
     ghost use Rattle.table_source_frames_build.specs.TurnSteps.{steps_of_turns};
     ghost use Rattle.table_source_frames_build.specs.Kept.{IsFile, IsLocation, IsName};
 
-    // The store tells of names, paths and frames.
+    // The store numbers names, paths and frames.
     ghost numbers_name = { λ sink number name. IsName sink.store.kept number name };
 
     ghost numbers_path = { λ sink number path. IsFile sink.store.kept number path };
 
     ghost numbers_frames = { λ sink number frames. IsLocation sink.store.kept number frames };
 
-    // The store has taken the frames of each of the turns.
+    // The store has accepted the frames of each of the turns.
     ghost has_received = { λ sink turns. sink.store.taken ≡ steps_of_turns turns };
 
     fn name(&mut self, name: Option<&'a [u8]>) -> Result<u32, NoMemory> {

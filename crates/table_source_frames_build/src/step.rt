@@ -1,6 +1,6 @@
 //! A step of a store.
 
-/// From an address on there are the frames of a location; 0 has none.
+/// A step: the frames from an address on are those of a location; location 0 has none.
 #[derive(Clone, Copy)]
 pub(crate) struct Step {
     pub start: u64,

@@ -1,4 +1,4 @@
-//! The frames of addresses, taken in any order.
+//! The frames of addresses, accepted in any order.
 
 ghost use Rattle.std.specs.Prelude.{◌≡◌, ◌∷◌, ◌++◌, ℕ, IfOk, List, OnErr, OnOk, Option, []};
 
@@ -9,7 +9,8 @@ use dwarf_lines::PathParts;
 use memory::{Heap, NoMemory};
 use std::marker::Model;
 
-/// The frames of addresses. A contract sees those of each, as they came, and what frames have, which is told by number.
+/// The frames of addresses. A contract sees the frames of each address, in the order of arrival, and the numbered
+/// texts, files and locations.
 #[derive(Drop)]
 pub struct LineStore<'a> {
     pub(crate) kept: Kept<'a>,
@@ -40,7 +41,7 @@ impl<'a> LineStore<'a> {
     ghost use Rattle.dwarf_source_frames.specs.FrameViews.{frame_view};
     ghost use Rattle.table_source_frames_build.specs.Kept.{IsFile, IsLocation, IsName, KeepsNumbers};
 
-    /// No address.
+    /// A store without addresses.
     pub fn new(heap: Heap) -> LineStore<'a>
         ensures { result ≡ record {
           taken = [];
@@ -53,8 +54,7 @@ impl<'a> LineStore<'a> {
         }
     }
 
-    /// The number of a name, or of none (0). It takes the time of a search, and the memory of a name that has not come
-    /// before.
+    /// The number of a name; 0 for no name. The time is that of a search, and a new name needs memory.
     pub fn name(&mut self, name: Option<&'a [u8]>) -> Result<u32, NoMemory>
         ensures is { IfOk result (λ number. IsName self.new.kept number (option_map (λ n. n.now) name.entry)) }
         ensures tells { KeepsNumbers self.old.kept self.new.kept }
@@ -63,8 +63,7 @@ impl<'a> LineStore<'a> {
         self.kept.name(name)
     }
 
-    /// The number of a path, or of none (0). It takes the time of four searches, and the memory of what has not come
-    /// before.
+    /// The number of a path; 0 for no path. The time is that of four searches, and new texts and files need memory.
     pub fn path(&mut self, path: Option<PathParts<'a>>) -> Result<u32, NoMemory>
         ensures is { IfOk result (λ number. IsFile self.new.kept number (option_map path_view path.entry)) }
         ensures tells { KeepsNumbers self.old.kept self.new.kept }
@@ -73,15 +72,15 @@ impl<'a> LineStore<'a> {
         self.kept.file(path)
     }
 
-    /// The number of no frames.
+    /// The number of the empty list of frames.
     pub fn no_frames(&self) -> u32
         ensures { IsLocation self.now.kept result [] }
     {
         0
     }
 
-    /// The number of a frame and of those that it is inlined into. It takes the time of a search, and the memory of a
-    /// location that has not come before.
+    /// The number of a frame and of those that it is inlined into. The time is that of a search, and a new location
+    /// needs memory.
     pub fn frames(
         &mut self,
         name: u32,
@@ -109,7 +108,7 @@ impl<'a> LineStore<'a> {
         })
     }
 
-    /// Takes an address and the number of its frames; an address is to come once. It takes the memory of 16 bytes.
+    /// Adds an address and the number of its frames. Each address is to be added once. It needs 16 bytes of memory.
     pub fn add_frames(&mut self, address: u64, number: u32) -> Result<(), NoMemory>
         requires { (frames : List FrameRecord) × IsLocation self.old.kept number frames }
         ensures added { OnOk result ((frames : List FrameRecord) → IsLocation self.old.kept number frames

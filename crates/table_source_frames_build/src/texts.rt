@@ -12,7 +12,7 @@ use crate::rows::push_u32;
 use memory::{Heap, NoMemory};
 
 impl<'a> Kept<'a> {
-    /// How many bytes some texts have, if they are no more than `most`.
+    /// The size of these texts in bytes; `None` if it is larger than `most`.
     pub fn texts_len(&self, texts: &[u32], most: u64) -> Option<u64>
         requires { AreNumbers (length (kept_view self.now).texts) texts.now }
         ensures { MatchOption result (most < length (concat (texts_at (kept_view self.now) texts.now)))
@@ -25,7 +25,7 @@ impl<'a> Kept<'a> {
         Some(most - left)
     }
 
-    /// Adds the rows of texts.
+    /// Adds the rows of these texts.
     pub fn push_text_rows(&self, bytes: &mut Vec<u8, Heap>, texts: &[u32]) -> Result<(), NoMemory>
         requires texts { AreNumbers (length (kept_view self.now).texts) texts.now }
         requires fits { length (concat (texts_at (kept_view self.now) texts.now)) < 2 ^ 32 }
@@ -42,7 +42,7 @@ impl<'a> Kept<'a> {
         Ok(())
     }
 
-    /// Adds texts.
+    /// Adds the bytes of these texts.
     pub fn push_texts(&self, bytes: &mut Vec<u8, Heap>, texts: &[u32]) -> Result<(), NoMemory>
         requires { AreNumbers (length (kept_view self.now).texts) texts.now }
         ensures { OnOk result (bytes.new.items

@@ -6,7 +6,7 @@ use Rattle.table_symbols.specs.Table.{FitsTable, TableParts, table_bytes}
 use Rattle.table_symbols.specs.declared.head.Head.{Head}
 use Rattle.table_symbols.specs.declared.table.Table.{Table}
 
--- a head is that of a table
+-- the fields of a head are those of a table
 pub record IsHeadOf (head : Head) (t : TableParts) : Type 0 where
   pub base : head.base ≡ t.base
   pub sections : head.sections ≡ length t.names
@@ -14,7 +14,7 @@ pub record IsHeadOf (head : Head) (t : TableParts) : Type 0 where
   pub strings : head.strings ≡ length t.strings
   pub lines : head.lines ≡ length t.lines
 
--- the number of the eight bytes from an offset on
+-- the number in the eight bytes from an offset on
 abbrev pub u64_at : List ℕ → ℕ → ℕ
 u64_at all offset = from_be_bytes w64 (take 8 (drop offset all))
 
@@ -25,7 +25,7 @@ pub record HasCounts (head : Head) (bytes : List ℕ) : Type 0 where
   pub strings : head.strings ≡ u64_at bytes 32
   pub lines : head.lines ≡ u64_at bytes 40
 
--- Bytes begin with the head of a table, and are as many as this head counts.
+-- The bytes begin with the head of a table, and their number is the one that this head states.
 pub record AreHeaded (all : List ℕ) : Type 0 where
   pub has_head : 48 ≤ length all
   pub size : length all
@@ -35,14 +35,14 @@ pub record AreHeaded (all : List ℕ) : Type 0 where
 abbrev pub lines_at : List ℕ → ℕ
 lines_at all = 48 + 32 * u64_at all 16 + 21 * u64_at all 24 + u64_at all 32
 
--- The table was opened where any bytes may be stored, be they a table or not: they are headed, and the table counts as
--- their head does.
+-- The table was opened in a text where any bytes may be stored, whether or not they are a table: they have a head, and
+-- the table has its counts.
 pub record IsOpenedIn (table : Table) (text all : List ℕ) : Type 0 where
   pub headed : AreHeaded all
   pub counts : HasCounts table.head all
   pub pages : ArePagesOf table.pages text all
 
--- The table stands, as far as digests tell, in the text, and its parts are where its head says.
+-- As far as SHA-256 decides, the table is stored in the text, and its parts have the offsets that its head states.
 pub record IsOpened (table : Table) (text : List ℕ) (t : TableParts) : Type 0 where
   pub fits : FitsTable t
   pub pages : ArePagesOf table.pages text (table_bytes t)

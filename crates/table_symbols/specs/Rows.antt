@@ -5,16 +5,16 @@ use Rattle.std.specs.Int.{w32, w64, to_be_bytes}
 use Rattle.macho_symbols.specs.Rows.{AreRising}
 use Rattle.macho_symbols.specs.declared.row.Row.{Row}
 
--- a row as it stands in a table: 21 bytes
+-- the 21 bytes of a row in a table
 unfoldable pub row_bytes : Row → List ℕ
 row_bytes r =
     to_be_bytes w64 r.start ++ (to_be_bytes w64 r.value ++ (to_be_bytes w32 r.n_strx ++ (r.sect ∷ [])))
 
--- rows as they stand in a table
+-- the bytes of rows in a table
 abbrev pub rows_bytes : List Row → List ℕ
 rows_bytes rows = flat_map row_bytes rows
 
--- a row whose numbers have their widths
+-- a row whose numbers fit their sizes
 pub record IsRow (r : Row) : Type 0 where
   pub start : r.start < 2 ^ 64
   pub value : r.value < 2 ^ 64

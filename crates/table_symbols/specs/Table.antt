@@ -18,8 +18,8 @@ pub record SectionNames : Type 0 where
 abbrev pub names_of : SectionRecord → SectionNames
 names_of s = record { segment = s.segment; section = s.section }
 
--- what a table has: the vmaddr of the first segment named __TEXT, the names of the sections, the rows, the strings and
--- the bytes of the lines
+-- the parts of a table: the vmaddr of the first segment named __TEXT, the names of the sections, the rows, the strings
+-- and the bytes of the lines
 pub record TableParts : Type 0 where
   pub base : Option ℕ
   pub names : List SectionNames
@@ -27,12 +27,12 @@ pub record TableParts : Type 0 where
   pub strings : List ℕ
   pub lines : List ℕ
 
--- so many zeros
+-- `n` zeros
 unfoldable pub zeros : ℕ → List ℕ
 zeros zero = []
 zeros (suc n) = 0 ∷ zeros n
 
--- a name of a section in 16 bytes, with zeros after it
+-- a name of a section in 16 bytes, padded with zeros
 abbrev pub padded : List ℕ → List ℕ
 padded name = name ++ zeros (16 - length name)
 
@@ -40,7 +40,7 @@ padded name = name ++ zeros (16 - length name)
 abbrev pub section_bytes : SectionNames → List ℕ
 section_bytes s = padded s.segment ++ padded s.section
 
--- whether there is a vmaddr of __TEXT, as a number, and that vmaddr, or 0
+-- 1 if there is a vmaddr of __TEXT, else 0; and the vmaddr, or 0
 abbrev pub base_flag : Option ℕ → ℕ
 base_flag None = 0
 base_flag (Some base) = 1
@@ -49,7 +49,7 @@ abbrev pub base_or_zero : Option ℕ → ℕ
 base_or_zero None = 0
 base_or_zero (Some base) = base
 
--- the head: six numbers of eight bytes, big-endian
+-- the head: six eight-byte numbers, big-endian
 unfoldable pub head_bytes : TableParts → List ℕ
 head_bytes t =
     to_be_bytes w64 (base_flag t.base) ++ (to_be_bytes w64 (base_or_zero t.base)
@@ -60,7 +60,7 @@ head_bytes t =
 unfoldable pub table_bytes : TableParts → List ℕ
 table_bytes t = head_bytes t ++ (flat_map section_bytes t.names ++ (rows_bytes t.rows ++ (t.strings ++ t.lines)))
 
--- numbers that fit, and names of at most 16 bytes
+-- the numbers fit their sizes, and names have at most 16 bytes
 pub record FitsTable (t : TableParts) : Type 0 where
   pub base : base_or_zero t.base < 2 ^ 64
   pub names : All (λ s. (length s.segment ≤ 16) × (length s.section ≤ 16)) t.names

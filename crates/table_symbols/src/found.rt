@@ -1,4 +1,4 @@
-//! What is found for an address by a stored table, with the names of its section.
+//! The result for an address in a stored table, with the names of its section.
 
 ghost use Rattle.std.specs.Prelude.{◌≡◌, ◌+◌, ◌*◌, ◌-◌, ◌<◌, ◌^◌, ℕ, List, Some};
 ghost use Rattle.std.specs.Option.{option_map};
@@ -22,19 +22,19 @@ use macho_symbols::Found;
 use memory::Heap;
 use table_checked_pages::CheckFault;
 
-/// A symbol that was found. It holds its names.
+/// A symbol that was found. It owns its names.
 #[derive(Drop)]
 pub struct OwnedFound {
     /// The symbol.
     pub symbol: NearestSymbol,
-    /// How far after the symbol the address lies that was asked for.
+    /// The distance from the symbol to the address that was looked up.
     pub offset: u64,
-    /// `segname` and `sectname` of its section, 16 bytes each; zeros where the slice has no section of that number.
+    /// `segname` and `sectname` of its section, 16 bytes each; zeros if the slice has no section with that number.
     pub names: [u8; 32],
 }
 
 impl OwnedFound {
-    /// `segname`: the name of the segment, as the section tells it.
+    /// `segname`: the name of the segment, as the section has it.
     fn segment(&self) -> &[u8]
         ensures { result.now ≡ name_at self.now.names 0 }
     {
@@ -48,7 +48,7 @@ impl OwnedFound {
         before_nul(&self.names[16..32])
     }
 
-    /// The same with its names borrowed.
+    /// The same result with its names borrowed.
     pub fn borrowed(&self) -> Found<'_>
         ensures { found_view result ≡ owned_view self.now }
     {
@@ -71,7 +71,8 @@ impl Table {
         self.head.base
     }
 
-    /// The names of the section of a number, from 1 on.
+    /// The names of the section with a number, from 1 on; zeros if there is no such section. The errors are those of
+    /// [`CheckFault`].
     fn section_names<P: Placed>(&mut self, device: &mut P, sect: u8) -> Result<[u8; 32], CheckFault>
         ensures fits { sect < 2 ^ 8 }
         ensures claim { self.new.pages.claim ≡ self.old.pages.claim }
@@ -93,7 +94,8 @@ impl Table {
         Ok(names)
     }
 
-    /// What is found for an address of the file.
+    /// The result for an address of the file; `None` if it has no nearest symbol. The errors are those of
+    /// [`CheckFault`].
     pub fn found<P: Placed>(
         &mut self,
         heap: Heap,

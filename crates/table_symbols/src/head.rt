@@ -1,6 +1,6 @@
-//! What the head of a table says.
+//! The fields of a table's head.
 
-/// What the head of a table says.
+/// The fields of a table's head.
 #[derive(Clone, Copy)]
 pub(crate) struct Head {
     pub base: Option<u64>,

@@ -1,28 +1,28 @@
 //! The nearest symbol of each address of a slice, step by step, as a table stores it.
 //!
-//! At each address at which the nearest symbol may change a row says which one it is from there on. So an answer is one
-//! halving over one list, with no section, tie or order of names in it.
+//! At each address at which the nearest symbol may change a row has the nearest symbol from there on. So a lookup is
+//! one binary search in one list, without sections, ties or orders of names.
 //!
-//! The rows are those that `macho_symbols` makes of an image, each 21 bytes here. Made:
+//! The rows are those that `macho_symbols` builds from an image, each 21 bytes here. To build a table:
 //!
-//! - `text`, `making`: [`TableText`], the table of an image, with the digests of its pages, and written.
+//! - `text`, `making`: [`TableText`], the table of an image, with the digests of its pages, and its writing.
 //!
-//! Asked:
+//! To look up an address:
 //!
 //! - `row`: a row of 21 bytes;
-//! - `search`: the row that an address belongs to;
+//! - `search`: the row for an address;
 //! - `names`: a name among the strings of a table;
 //! - `head`, `table`: [`Table`], a table whose head was read; `opening`: [`Table::open`];
 //! - `nearest`: [`NearestSymbol`], and [`Table::nearest`], the nearest symbol of an address;
 //! - `found`: [`OwnedFound`], a symbol with the names of its section; [`Table::found`];
-//! - `lines`: [`Table::into_lines`], where the lines of a table begin;
-//! - `laws`: what the definitions say of each other.
+//! - `lines`: [`Table::into_lines`], the offset of the lines of a table;
+//! - `laws`: relations between the definitions.
 //!
 //! Decided:
 //!
-//! - A table is its own bytes (head, sections, rows) in memory, the strings where they lie, and its lines as another
-//!   maker gave them: a page is hashed in these three parts, and none is copied.
-//! - What the lines of a table are is not told here: what is asked of its symbols holds with any.
+//! - A table in memory is its own bytes (head, sections, rows), its strings, which are borrowed, and its lines, which
+//!   another crate builds: a page is hashed in these three parts, and none is copied.
+//! - This crate does not define the lines of a table: its results for symbols hold with any lines.
 #![tactic(auto)]
 
 mod found;

@@ -1,4 +1,4 @@
-//! Where the lines stand in a stored table.
+//! The offset of the lines in a stored table.
 
 ghost use Rattle.std.specs.Prelude.{◌≡◌, ℕ, List};
 ghost use Rattle.table_checked_pages.specs.Views.{ArePagesOf};
@@ -10,8 +10,7 @@ use crate::Table;
 use table_checked_pages::Pages;
 
 impl Table {
-    /// The bytes of the table, and the offset among them from which on they are its lines. Of the bytes that were read
-    /// for symbols none is kept.
+    /// The bytes of the table, and the offset of its lines among them. No page that was read for symbols is kept.
     pub fn into_lines(self) -> (Pages, u64)
         ensures claim { result.0.claim ≡ self.pages.claim }
         ensures lines { (text : List ℕ) (t : TableParts) → IsOpened self text t

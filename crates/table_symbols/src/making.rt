@@ -1,4 +1,4 @@
-//! The table of an image, made and written.
+//! The table of an image: its building and writing.
 
 ghost use Rattle.std.specs.Prelude.{◌≡◌, ◌<◌, ◌+◌, ◌*◌, ◌^◌, ◌++◌, ◌≤◌, ◌↔◌, IfOk, IsTrue, length, take, drop};
 ghost use Rattle.sha2.specs.Sha256.{sha256};
@@ -35,14 +35,14 @@ impl<'a> Model for TableText<'a> {
     ghost invariant = { λ t. length t.own.items + length t.strings.now + length t.lines.items < 2 ^ 64 };
 }
 
-/// Whether parts of these lengths have fewer than 2^64 bytes.
+/// Whether parts of these sizes have fewer than 2^64 bytes together.
 fn is_counted(own: usize, strings: usize, lines: usize) -> bool
     ensures { IsTrue result ↔ (own + strings + lines < 2 ^ 64) }
 {
     own as u128 + strings as u128 + lines as u128 <= u128::from(u64::MAX)
 }
 
-/// So many bytes from an offset on, or as many of them as there are.
+/// The `len` bytes from an offset on, or all that there are if there are fewer.
 fn part(bytes: &[u8], from: usize, len: usize) -> &[u8]
     ensures { result.now ≡ take len (drop from bytes.now) }
 {
@@ -51,10 +51,9 @@ fn part(bytes: &[u8], from: usize, len: usize) -> &[u8]
 }
 
 impl<'a> TableText<'a> {
-    /// The table of an image whose symbols can be read, with these bytes as its lines. It takes 24 bytes for each entry
-    /// that is a candidate and 45 for each row, and no copy of the strings or the lines; where names that are compared
-    /// overlap, up to two bytes for each of the strings. `NoMemory` where a growth was refused, and for a table of 2^64
-    /// bytes.
+    /// The table of an image whose symbols can be read, with these bytes as its lines. It needs 24 bytes for each
+    /// candidate and 45 for each row, and no copy of the strings or the lines; and up to two for each byte of the
+    /// strings, if names that are compared overlap. The error is `NoMemory`, also for a table of 2^64 bytes or more.
     pub fn new(
         heap: Heap,
         image: &Image<'a>,
@@ -87,14 +86,14 @@ impl<'a> TableText<'a> {
         })
     }
 
-    /// How many bytes it has.
+    /// The size of the table in bytes.
     pub fn size(&self) -> u64
         ensures { result ≡ length self.now }
     {
         self.own.len() as u64 + self.strings.len() as u64 + self.lines.len() as u64
     }
 
-    /// The SHA-256 of a page. What it has of the strings and the lines is not copied.
+    /// The SHA-256 of a page. Its parts of the strings and the lines are not copied.
     fn page_digest(&self, index: u64) -> [u8; 32]
         requires { 4096 * index < 2 ^ 64 }
         ensures { result ≡ sha256 (page_of self.now index) }
@@ -124,7 +123,7 @@ impl<'a> TableText<'a> {
         Ok(digests)
     }
 
-    /// What stands before the table where it is stored, and its root. Each page is hashed once.
+    /// The digests that are stored before the table, and its root. Each page is hashed once.
     pub fn above(&self, heap: &Heap) -> Result<Stored, NoMemory>
         ensures stored { IfOk result (λ above. above.bytes.items ++ self.now ≡ stored self.now) }
         ensures root { IfOk result (λ above. above.root ≡ root_of self.now) }
@@ -139,8 +138,8 @@ impl<'a> TableText<'a> {
         store(heap, digests)
     }
 
-    /// Writes the table as it is stored, after the first `done` bytes of a text, and says how many there are then.
-    /// `above` stands before it.
+    /// Writes the table as it is stored, after the first `done` bytes of a text, and returns the new number of bytes.
+    /// The digests `above` are written first.
     pub fn write<W: Sink>(&self, above: &[u8], w: &mut W, done: u128) -> Result<u128, WriteFault>
         requires above { above.now ++ self.now ≡ stored self.now }
         requires fits { done < 2 ^ 127 }

@@ -12,11 +12,11 @@ use macho_image::before_nul;
 use memory::Heap;
 use table_checked_pages::{CheckFault, Pages};
 
-/// How many bytes are read at once.
+/// The number of bytes that are read at once.
 const PIECE: usize = 64;
 
 /// Adds bytes to a name.
-fn push_all(name: &mut Vec<u8, Heap>, bytes: &[u8]) -> Result<(), CheckFault>
+fn push_bytes(name: &mut Vec<u8, Heap>, bytes: &[u8]) -> Result<(), CheckFault>
     ensures pushed { OnOk result (name.new.items ≡ name.old.items ++ bytes.now) }
     ensures fault { IfErr result (λ fault. fault ≡ CheckFault.OutOfMemory) }
 {
@@ -26,8 +26,8 @@ fn push_all(name: &mut Vec<u8, Heap>, bytes: &[u8]) -> Result<(), CheckFault>
     }
 }
 
-/// The name from an offset on of the strings, `size` bytes that stand in the table from `first` on. It ends before the
-/// first NUL, or with the strings; past their end there is none, and it is empty.
+/// The name at an offset of the strings, which are the `size` bytes of the table from `first` on. It ends before the
+/// first NUL, or with the strings; past their end it is empty. The errors are those of [`CheckFault`].
 pub(crate) fn name_from<P: Placed>(
     heap: Heap,
     device: &mut P,
@@ -53,7 +53,7 @@ pub(crate) fn name_from<P: Placed>(
         let piece = &mut room[..n];
         table.read(device, first + at, piece)?;
         let part = before_nul(piece);
-        push_all(&mut name, part)?;
+        push_bytes(&mut name, part)?;
         if part.len() < n {
             return Ok(name);
         }

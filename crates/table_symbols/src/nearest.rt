@@ -1,4 +1,4 @@
-//! The nearest symbol of an address, by a stored table.
+//! The nearest symbol of an address, from a stored table.
 
 ghost use Rattle.std.specs.Prelude.{◌≡◌, ◌+◌, ◌*◌, ◌<◌, ℕ, List, Some};
 ghost use Rattle.table_checked_pages.specs.Pages.{AreStored};
@@ -50,7 +50,7 @@ impl Table {
         self.first_string() + self.head.strings
     }
 
-    /// The nearest symbol of an address of the file.
+    /// The nearest symbol of an address of the file; `None` if there is none. The errors are those of [`CheckFault`].
     pub fn nearest<P: Placed>(
         &mut self,
         heap: Heap,

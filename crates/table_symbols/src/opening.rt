@@ -1,4 +1,4 @@
-//! The head of a stored table.
+//! The opening of a stored table, which reads its head.
 
 ghost use Rattle.std.specs.Prelude.{◌≡◌, ◌+◌, ◌*◌, ◌<◌, ◌^◌, ℕ, ◌↔◌, List, Option, Some, IfOk, IsTrue, length};
 ghost use Rattle.table_checked_pages.specs.Pages.{AreStored, MayBeStored};
@@ -14,20 +14,20 @@ use byte_device::Placed;
 use memory::Heap;
 use table_checked_pages::{CheckFault, Claim, Pages, u64_be_at};
 
-/// How many bytes the head has.
+/// The size of the head in bytes.
 pub(crate) const HEAD_LEN: usize = 48;
 
-/// How many bytes the names of a section have.
+/// The size of the names of a section in bytes.
 pub(crate) const SECTION_LEN: u64 = 32;
 
-/// The vmaddr that a head says, by its flag.
+/// The vmaddr of a head; `None` if its flag is 0.
 fn base_of(flag: u64, value: u64) -> Option<u64>
     ensures { (base : Option ℕ) → flag ≡ base_flag base → value ≡ base_or_zero base → result ≡ base }
 {
     if flag == 0 { None } else { Some(value) }
 }
 
-/// The head that these bytes are.
+/// The head with these bytes.
 fn head_of(bytes: &[u8]) -> Head
     requires { length bytes.now ≡ 48 }
     ensures is { (t : TableParts) → FitsTable t → bytes.now ≡ head_bytes t → IsHeadOf result t }
@@ -42,7 +42,7 @@ fn head_of(bytes: &[u8]) -> Head
     }
 }
 
-/// Whether a table with this head has so many bytes.
+/// Whether a table with this head has `size` bytes.
 fn has_size(head: &Head, size: u64) -> bool
     ensures { IsTrue result
         ↔ (size ≡ 48 + 32 * head.now.sections + 21 * head.now.rows + head.now.strings + head.now.lines) }
@@ -54,7 +54,8 @@ fn has_size(head: &Head, size: u64) -> bool
 }
 
 impl Table {
-    /// The table that a claim names, with its head read.
+    /// The table of a claim; its head is read. The error is `Changed` if a page differs from its digest or the head
+    /// does not fit the size of the claim, `Device` or `OutOfMemory`.
     pub fn open<P: Placed>(heap: Heap, device: &mut P, claim: Claim) -> Result<Table, CheckFault>
         ensures claim { IfOk result (λ table. table.pages.claim ≡ claim) }
         ensures bytes { IfOk result (λ table. (text all : List ℕ) → P.whole device.old ≡ Some text

@@ -1,4 +1,4 @@
-//! The row that an address belongs to, found by halving in a stored table.
+//! The row for an address, by binary search in a stored table.
 
 ghost use Rattle.std.specs.Prelude.{◌≡◌, ◌+◌, ◌*◌, ◌<◌, ◌≤◌, ◌^◌, ℕ, List, Some, length, slice_get};
 ghost use Rattle.table_checked_pages.specs.Pages.{AreStored};
@@ -14,7 +14,7 @@ use byte_device::Placed;
 use macho_symbols::Row;
 use table_checked_pages::{CheckFault, Pages, Sought, partition_point};
 
-/// The row with this number, among those that stand from an offset on.
+/// The row with this number, among the rows from an offset on.
 fn row_at<P: Placed>(
     device: &mut P,
     table: &mut Pages,
@@ -35,7 +35,7 @@ fn row_at<P: Placed>(
     Ok(row_of(&bytes))
 }
 
-/// The rows that begin at an address or below it, among so many from an offset of the table on.
+/// The rows that begin at or below an address, among the rows from an offset of the table on.
 #[derive(Drop)]
 struct StartsUpTo {
     first: u64,
@@ -69,8 +69,8 @@ impl Sought for StartsUpTo {
     }
 }
 
-/// The row that an address belongs to, among so many rows, from an offset of the table on. It reads one row for each
-/// halving.
+/// The row for an address, among a number of rows from an offset of the table on. It reads one row in each step of the
+/// binary search.
 pub(crate) fn row_for<P: Placed>(
     device: &mut P,
     table: &mut Pages,

@@ -1,11 +1,11 @@
-//! A stored table, and where its parts stand.
+//! A stored table, and the offsets of its parts.
 
 ghost use Rattle.std.specs.Prelude.{◌+◌, ◌*◌, ◌<◌, ◌^◌};
 
 use crate::head::Head;
 use table_checked_pages::Pages;
 
-/// The table of a slice, opened: its head was read.
+/// The table of a slice, after its head was read.
 #[derive(Drop)]
 pub struct Table {
     pub(crate) pages: Pages,

@@ -10,10 +10,10 @@ use macho_image::Section;
 use macho_symbols::Row;
 use memory::{Heap, NoMemory};
 
-/// The length of a name of a section in a table.
+/// The size of a name of a section in a table.
 const NAME_LEN: usize = 16;
 
-/// Adds a number of eight bytes.
+/// Adds a number as eight bytes.
 fn push_u64(text: &mut Vec<u8, Heap>, number: u64) -> Result<(), NoMemory>
     ensures { OnOk result (text.new.items ≡ text.old.items ++ to_be_bytes w64 number) }
 {
@@ -21,7 +21,7 @@ fn push_u64(text: &mut Vec<u8, Heap>, number: u64) -> Result<(), NoMemory>
     Ok(())
 }
 
-/// Adds whether there is a vmaddr, and that vmaddr, or 0.
+/// Adds whether there is a vmaddr, and the vmaddr, or 0.
 fn push_base(text: &mut Vec<u8, Heap>, base: Option<u64>) -> Result<(), NoMemory>
     ensures { OnOk result (text.new.items
         ≡ (text.old.items ++ to_be_bytes w64 (base_flag base)) ++ to_be_bytes w64 (base_or_zero base)) }
@@ -30,7 +30,7 @@ fn push_base(text: &mut Vec<u8, Heap>, base: Option<u64>) -> Result<(), NoMemory
     push_u64(text, base.unwrap_or(0))
 }
 
-/// Adds a name of a section, with zeros after it.
+/// Adds a name of a section, padded with zeros.
 fn push_name(text: &mut Vec<u8, Heap>, name: &[u8]) -> Result<(), NoMemory>
     ensures { OnOk result (text.new.items ≡ text.old.items ++ padded name.now) }
 {
@@ -49,7 +49,7 @@ fn push_section(text: &mut Vec<u8, Heap>, section: &Section<'_>) -> Result<(), N
     push_name(text, section.section)
 }
 
-/// Adds the names of sections.
+/// Adds the names of these sections.
 pub(crate) fn push_sections(
     text: &mut Vec<u8, Heap>,
     sections: &[Section<'_>],
@@ -75,7 +75,7 @@ fn push_row(text: &mut Vec<u8, Heap>, row: Row) -> Result<(), NoMemory>
     Ok(())
 }
 
-/// Adds rows.
+/// Adds these rows.
 pub(crate) fn push_rows(text: &mut Vec<u8, Heap>, rows: &[Row]) -> Result<(), NoMemory>
     ensures fit { OnOk result (All IsRow rows.now) }
     ensures pushed { OnOk result (text.new.items ≡ text.old.items ++ rows_bytes rows.now) }

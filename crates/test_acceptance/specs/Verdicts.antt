@@ -8,18 +8,18 @@ use Rattle.test_acceptance.specs.declared.verdicts.Outcome.{Outcome}
 abbrev pub newline : ℕ
 newline = 10
 
--- how many bytes two texts have in common before they part
+-- the length of the common beginning of two texts
 abbrev pub common_length : List ℕ → List ℕ → ℕ
 common_length wanted came = common_prefix_len (λ w c. w == c) wanted came
 
--- the number, counted from 0, of the line in which two texts part: so many lines end before they do
+-- the number, counted from 0, of the first line that differs between two texts: as many lines end before the difference
 abbrev pub parting_line : List ℕ → List ℕ → ℕ
 parting_line wanted came = count_by (λ b. b == newline) (take (common_length wanted came) wanted)
 
--- a line came as it stands: what came is what has to come, byte by byte
+-- the result of a line is the expected one, byte by byte
 abbrev pub IsAsItStands : Step → Type 0
 IsAsItStands step = string_bytes step.wanted ≡ string_bytes step.came
 
--- what was asked for was carried out, and each of its lines came as it stands
+-- the requested lines were carried out, and each has the expected result
 abbrev pub CameAsItStands : Outcome → Type 0
 CameAsItStands outcome = IsOkAnd outcome.ended (λ steps. All IsAsItStands steps.items)

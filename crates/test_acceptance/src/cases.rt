@@ -1,110 +1,113 @@
 //! The language of cases.
 //!
-//! A subject is a file of the folder `cases`. Each of its cases has a name, in a line `= NAME`, and what all of them
-//! need stands above the first one. A line `use NAME` stands for the lines of the file NAME of the folder `shared`. Any
-//! other line is carried out, and what has to come of it stands after it, in lines that begin with two spaces.
+//! A subject is a file of the folder `cases`. Each of its cases begins with a name, in a line `= NAME`; lines that all
+//! cases need are above the first one. A line `use NAME` is replaced by the lines of the file NAME of the folder
+//! `shared`. Any other line is carried out; its expected result follows it, in lines that begin with two spaces.
 //!
-//! What a line keeps is there for all that follow, so a case that is asked for alone is carried out after all that
-//! stands above it. A line is cut into words at each space; `words` has the form of a word with spaces, `"-[A b]"`.
+//! Files that a line stores are there for all later lines, so if a single case is requested, all lines above it are
+//! carried out first. A line is split into words at each space; `words` has the form of a word with spaces, `"-[A b]"`.
 //!
-//! Files in memory, and what holds for the next call or command line alone:
+//! Files in memory, and limits for the next call or command line only:
 //!
-//! - an empty line, and one that begins with `#`, say nothing;
-//! - `file NAME PART..` keeps bytes under a name, and prints their number; `parts` has the forms of PART;
-//! - `line NAME TEXT` puts a line of text after a file, and prints the number of its bytes;
-//! - `same NAME PART..` prints whether a file has these bytes, or where the two differ first;
-//! - `hold pieces N`: inputs give at most N bytes at a time;
+//! - an empty line, and one that begins with `#`, have no effect;
+//! - `file NAME PART..` stores bytes under a name, and prints their number; `parts` has the forms of PART;
+//! - `line NAME TEXT` adds a line of text to the end of a file, and prints the number of its bytes;
+//! - `same NAME PART..` prints whether a file has these bytes, or the first difference;
+//! - `hold pieces N`: inputs return at most N bytes at a time;
 //! - `hold growths N`: N growths are granted; `hold bytes N`: growths of N bytes in all are granted to a command, or to
 //!   a call that reads;
 //! - `hold opened N`: there is memory to open the first N inputs of a command, in the order of the command line;
-//! - `hold out N`, `hold report N`: OUT, or the report, fails when it took N bytes; `hold places 0`: OUT takes all
-//!   bytes, and cannot be published;
-//! - `hold cut NAME N`: a file has its first N bytes alone; `hold read NAME N`: it fails when it gave N bytes;
-//! - `each cut NAME`, `each read NAME`, `each out`, `each report`, `each pieces N` carry the next one out at each
-//!   place, and print places in a row that have one outcome in one line;
-//! - `each growth` carries it out with 0, 1, .. growths until none is refused, and prints how many runs met a refusal
-//!   on either archive. A refused run leaves no report and nothing published, and OUT's draft empty or whole; one that
-//!   writes as it reads leaves a beginning there. The first run that meets none ends as with ample memory. Where
-//!   no run meets one, the sweep is `WRONG`: `hold growths 0` shows that a call takes no memory.
+//! - `hold out N`, `hold report N`: OUT, or the report, fails after it accepted N bytes; `hold places 0`: OUT accepts
+//!   all bytes, and cannot be published;
+//! - `hold cut NAME N`: a file has only its first N bytes; `hold read NAME N`: it fails after it returned N bytes;
+//! - `each cut NAME`, `each read NAME`, `each out`, `each report`, `each pieces N` carry the next one out at each point
+//!   of the device, and print consecutive points with one result in one line;
+//! - `each growth` carries it out with 0, 1, .. growths until none is refused, and prints the number of runs with a
+//!   refusal for each archive type. A refused run leaves no report and nothing published, and OUT's draft empty or
+//!   complete; a command that writes as it reads leaves a beginning there. The first run without a refusal has the same
+//!   result as with ample memory. If no run has a refusal, the sweep is `WRONG`: `hold growths 0` shows that a call
+//!   uses no memory.
 //!
 //! Files of the system, in a folder of this run's own:
 //!
-//! - `lay NAME..` writes files in memory to the folder; `fetch NAME` reads one of the folder into memory, and prints
-//!   the number of its bytes, or that it is not there;
+//! - `lay NAME..` writes files in memory to the folder; `fetch NAME` reads a file of the folder into memory, and prints
+//!   the number of its bytes, or that it does not exist;
 //! - `link hard NEW OLD` and `link soft NEW OLD` make a link to a file of the folder;
-//! - `program WORD..` carries a command line out over files of the system, and prints the report, what was said on
-//!   standard error, where `@` stands for the folder, and the status. A word that begins with `@` names a file of the
-//!   folder. Of `hold` it heeds `report` alone; `unread text` and `unread memory` do the same of words that could not
-//!   be read, since one is no text, or since memory runs out.
+//! - `program WORD..` carries a command line out over files of the system, and prints the report, the lines of standard
+//!   error, with `@` for the folder, and the status. A word that begins with `@` names a file of the folder. Of the
+//!   limits of `hold`, only `report` has an effect; `unread text` and `unread memory` do the same for words that could
+//!   not be read, because one is not UTF-8 text, or because memory ran out.
 //!
-//! The program over files in memory, whose report stands after `|`:
+//! The program over files in memory, whose report is printed after `|`:
 //!
-//! - `plan WORD..` prints what a command line asks for, or why it is refused; `-` stands for no words;
-//! - `run WORD..` carries a command line out, and prints the report, after `OUT` the length and the SHA-256 of what was
-//!   published, or after `draft` those of what was not, the fault and the status. OUT, or its draft, is kept as a
-//!   file where it took bytes.
+//! - `plan WORD..` prints the plan of a command line, or why it is refused; `-` means no words;
+//! - `run WORD..` carries a command line out, and prints the report, the length and the SHA-256 of the published bytes
+//!   after `OUT`, or of the draft after `draft`, the fault and the status. OUT, or its draft, is stored as a file if it
+//!   received bytes.
 //!
-//! Calls below the commands. What one gives stands after `|`, or is `nothing`, and its fault stands in a line of its
-//! own, `Truncated at 8`:
+//! Calls below the commands. The result of a call is printed after `|`, or is `nothing`; its fault is printed in a line
+//! of its own, `Truncated at 8`:
 //!
 //! - `kind NAME`: the kind of a file;
-//! - `fat NAME`: a universal file, a line for each slice: `slice 0: 28 bytes SHA256`;
+//! - `fat NAME`: a universal file, one line for each slice: `slice 0: 28 bytes SHA256`;
 //! - `image NAME`: an image: `UUID ARCH image` (or `dsym`), `text base 0x..` (or `-`), `symtab SYMOFF NSYMS STROFF
-//!   STRSIZE` (or `-`), `commands N`, and a line for each section: `section 1 __TEXT,__text from 0x.., SIZE addresses`;
+//!   STRSIZE` (or `-`), `commands N`, and one line for each section: `section 1 __TEXT,__text from 0x.., SIZE
+//!   addresses`;
 //! - `check NAME`: a slice, by `Slice::check` and `Slice::admit`: `UUID ARCH SHA256`;
 //! - `nearest NAME ADDRESS..`: the nearest symbol by the scan and by the table: `0x.. NAME + OFFSET (SEGMENT,SECTION)
 //!   in section 1`, or `0x.. -`; `addresses` has the forms of ADDRESS;
-//! - `named NAME PART..`: each symbol of a name, as `nearest` prints it, at its own address;
-//! - `front NAME`: an archive's text, read from the front of a file: `2 records, 106 bytes are left`, with `then it
-//!   fails` where the reader fails after them;
+//! - `named NAME PART..`: each symbol with a name, as `nearest` prints it, at its own address;
+//! - `front NAME`: an archive's text, read from the start of a file: `2 records, 106 bytes are left`, with `then it
+//!   fails` if the reader fails after them;
 //! - `whole NAME`, `operations NAME`, `summary NAME`: an archive's text, operations and a summary, read to their ends:
 //!   `2 records, 2 entries`, where the entries are those of its summary, `3 operations`, `2 entries`;
 //! - `part NAME UUID QUESTION..`, `part NAME UUID ARCH QUESTION..`: an archive's text, read to its end, of which the
-//!   records of a UUID, or of a key, are kept: each, as `admit UUID ARCH SHA256` or `retire ..`, then `2 records`, the
-//!   length and the SHA-256 of their text, and their answers. Where memory is held, it is that of the reading;
-//! - `merge-streams LEFT RIGHT`: two archives, merged as they come into an output that takes as many bytes as OUT: `2
-//!   records, 195 bytes`, or `Left: Truncated at 97; 97 bytes written`; and the length and the SHA-256 of what was
-//!   written;
-//! - `pairs IMAGE N SEED`: N random pairs of archives, made of an image, which are merged as they come and joined as
-//!   values: the length and the SHA-256 of all that was merged;
-//! - `reading NAME FAILING N`: four pulls of N bytes from a reader of std over a file, of which the second call fails:
-//!   `moved 1` or `failed` for each, and the number of the reader's calls. FAILING is `interrupted`, `other`, `idle`
-//!   (it moves no byte) or `never`;
-//! - `writing NAME FAILING N`: a file, pushed in pieces of N bytes to a writer of std that fails so, and what that has
-//!   then;
-//! - `asked NAME`: four pulls of 8 bytes from an input of the cases, a pull of no byte from another one, and to an
-//!   output a push of no byte, and of the file: `moved 3` or `failed` for each;
-//! - `room N`: what memory with N growths holds: the numbers that one vector takes, and which of three vectors take
-//!   one, before and after a growth more is granted; `room-of-bytes N`: how many numbers of 8 bytes one vector takes in
-//!   memory with N bytes;
-//! - `heaps ARCHIVE OTHER OPS`: operations are copied from a memory that runs out, and to one. Of two archives, each in
-//!   a memory of its own, one joins the other where its own memory runs out, and where the other's does, and takes the
-//!   operations; the other takes them where the first one's runs out. And the same of the join by value;
+//!   records under a UUID, or under a key, are kept: each, as `admit UUID ARCH SHA256` or `retire ..`, then `2
+//!   records`, the length and the SHA-256 of their text, and their answers. A limit on memory applies to the reading;
+//! - `merge-streams LEFT RIGHT`: two archives, merged as they are read into an output with the limit of OUT: `2
+//!   records, 195 bytes`, or `Left: Truncated at 97; 97 bytes written`; and the length and the SHA-256 of the written
+//!   bytes;
+//! - `pairs IMAGE N SEED`: N random pairs of archives, made from an image, which are merged as they are read and joined
+//!   as values: the length and the SHA-256 of all merged texts;
+//! - `reading NAME FAILING N`: four pulls of N bytes from a reader of std over a file, whose second call fails: `moved
+//!   1` or `failed` for each, and the number of the reader's calls. FAILING is `interrupted`, `other`, `idle` (it moves
+//!   no byte) or `never`;
+//! - `writing NAME FAILING N`: a file, pushed in pieces of N bytes to a writer of std that fails so, and the bytes in
+//!   it afterwards;
+//! - `asked NAME`: four pulls of 8 bytes from an input of the cases, a pull of no bytes from another one, and pushes to
+//!   an output, of no bytes and of the file: `moved 3` or `failed` for each;
+//! - `room N`: the capacity of memory with N growths: the numbers that one vector accepts, and which of three vectors
+//!   accept one, before and after one more growth is granted; `room-of-bytes N`: the numbers of 8 bytes that one vector
+//!   accepts in memory with N bytes;
+//! - `heaps ARCHIVE OTHER OPS`: operations are copied from a memory that has run out, and to one. For two archives,
+//!   each in a memory of its own, one joins the other if its own memory has run out, and if the other's has, and adds
+//!   the operations; the other adds them if the first one's memory has run out. Then the same with the join by value;
 //! - `world SCRIPT N`: `run` of a script's events on N sites: their number, and the length and the SHA-256 of the text
-//!   that each site holds.
+//!   of each site.
 //!
-//! Calls that may change an archive. Behind what each gives stand the length and the SHA-256 of the text of what is
-//! held then, of a site also of what it saved, and the answers to the questions; `questions` has the forms of QUESTION:
+//! Calls that may change an archive. The result of each is followed by the length and the SHA-256 of the text of the
+//! held archive, for a site also of the saved one, and by the answers to the questions; `questions` has the forms of
+//! QUESTION:
 //!
-//! - `ask ARCHIVE QUESTION..`: the answers alone;
-//! - `take ARCHIVE OPS QUESTION..`: the operations of a file, taken into an archive in turn: `admit UUID ARCH SHA256
-//!   new` or `retire ..`, where the word at the end is `new` if that changed the archive, `held` if it was there, or
+//! - `ask ARCHIVE QUESTION..`: only the answers;
+//! - `take ARCHIVE OPS QUESTION..`: the operations of a file, added to an archive in order: `admit UUID ARCH SHA256
+//!   new` or `retire ..`, where the last word is `new` if the operation changed the archive, `held` if it was there, or
 //!   else `covered`; then `2 records`;
 //! - `join ARCHIVE OTHER QUESTION..`: an archive before and after it is joined with another: `2 records, all of the
 //!   other: no`;
-//! - `take-each ARCHIVE OPS QUESTION..`, `absorb ARCHIVE OTHER QUESTION..`: the same, with the operations taken
+//! - `take-each ARCHIVE OPS QUESTION..`, `absorb ARCHIVE OTHER QUESTION..`: the same, with the operations added
 //!   together, `2 new`, and the other archive joined by value;
-//! - `site HELD SAVED CALL INPUT QUESTION..`: a call of a site that saved the archive SAVED, and holds HELD beside it:
-//!   `new` (an empty site in its place), `take`, `retire` (the slice that INPUT is), `full`, `ask`, `reply`, `deliver`,
-//!   `save` or `stop`; `-` stands for no INPUT.
+//! - `site HELD SAVED CALL INPUT QUESTION..`: a call of a site that saved the archive SAVED, and holds HELD in
+//!   addition: `new` (an empty site in its place), `take`, `retire` (the slice in INPUT), `full`, `ask`, `reply`,
+//!   `deliver`, `save` or `stop`; `-` means no INPUT.
 //!
-//! Where growths are held, those of the call alone count. Where one is refused, what is held and saved has to be what
-//! the call promises, and to answer as an archive does that is read from its text; calls that take no memory have to
-//! succeed; and the call made again has to end as it ends at once, and to come to the same.
+//! A limit on growths applies only to those of the call. If one is refused, the held and saved archives must be as the
+//! call promises, and have the answers of an archive that is read from their text; calls that use no memory must
+//! succeed; and the repeated call must have the same result as at once.
 //!
-//! Each call and each command line is carried out on the plain archive and on the indexed one, and has to end alike.
-//! One that is not swept is carried out on the first with inputs in pieces of 1 byte, too, and on the second in pieces
-//! of 7. A report of more than 40 lines is printed as `5000 lines SHA256`. What contradicts itself is printed as
+//! Each call and each command line is carried out on the plain archive and on the indexed one, and must have the same
+//! result. One that is not swept is carried out on the first also with inputs in pieces of 1 byte, and on the second in
+//! pieces of 7. A report of more than 40 lines is printed as `5000 lines SHA256`. A contradiction is printed as
 //! `WRONG`.
 
 use crate::folder::Folder;
@@ -120,7 +123,7 @@ use std::rt::Files;
 use test_calls::{Call, Desk, Tried};
 use test_parts::{
     CaseFault, FileLimit, Left, Limits, Store, Sweep, bytes_of, first_word, number, print_left,
-    print_line_fault, print_room, print_room_of_bytes, print_same, words_of,
+    print_line_fault, print_room_of_bytes, print_room_of_growths, print_same, words_of,
 };
 
 // How often the next case is carried out.
@@ -131,7 +134,7 @@ enum Mode<'t> {
     Sweep(Sweep<'t>),
 }
 
-// Files in memory, and what holds for the next case.
+// Files in memory, and the limits for the next case.
 #[derive(Drop)]
 struct Bench<'t> {
     alloc: Global,
@@ -140,8 +143,8 @@ struct Bench<'t> {
     mode: Mode<'t>,
 }
 
-/// Carries out the lines of a subject's text, or those of one of its cases, and gives each with what has to come of it
-/// and what came. What stands above that case is carried out before it, and not given.
+/// Carries out the lines of a subject's text, or those of one of its cases, and returns each with its expected result
+/// and its result. The lines above that case are carried out before it, and not returned.
 pub fn carry_out<R: Files + AllocGlobal>(
     alloc: Global,
     folder: &Folder<'_, R>,
@@ -162,7 +165,7 @@ pub fn carry_out<R: Files + AllocGlobal>(
     Ok(bench.carry_out(folder, case)?)
 }
 
-// Prints the command of a line, what stands at each of its names, and its plan.
+// Prints the command of a line, the values at each of its names, and its plan.
 fn print_line(line: &Line, printed: &mut String) -> Result<(), NoMemory> {
     write!(printed, "  {}", line.name)?;
     for (argument, values) in line.arguments().iter().zip(&line.values) {
@@ -171,7 +174,7 @@ fn print_line(line: &Line, printed: &mut String) -> Result<(), NoMemory> {
     writeln!(printed, "\n  {:?}", Plan::of(line))
 }
 
-// Adds a line to what has to come of the last one.
+// Adds a line to the expected result of the last one.
 fn add_wanted(alloc: Global, steps: &mut Vec<Step>, line: &str) -> Result<(), NoMemory> {
     match steps.last_mut() {
         Some(step) => writeln!(step.wanted, "{line}"),
@@ -187,7 +190,7 @@ fn add_wanted(alloc: Global, steps: &mut Vec<Step>, line: &str) -> Result<(), No
 }
 
 impl<'t> Bench<'t> {
-    // Carries out the lines of a text, and gives each with what has to come of it and what came.
+    // Carries out the lines of a text, and returns each with its expected result and its result.
     fn carry_out<R: Files + AllocGlobal>(
         &mut self,
         folder: &Folder<'_, R>,
@@ -204,7 +207,7 @@ impl<'t> Bench<'t> {
         Ok(steps)
     }
 
-    // Carries out a line. Where that cannot be done, it says so.
+    // Carries out a line. If that fails, the result states why.
     fn step<R: Files + AllocGlobal>(
         &mut self,
         folder: &Folder<'_, R>,
@@ -243,14 +246,14 @@ impl<'t> Bench<'t> {
             "program" => self.run_over_files(words, folder, printed),
             "unread" => folder.run_unread(words, printed),
             "room-of-bytes" => Ok(print_room_of_bytes(self.alloc, number(words)?, printed)?),
-            "room" => Ok(print_room(self.alloc, number(words)?, printed)?),
+            "room" => Ok(print_room_of_growths(self.alloc, number(words)?, printed)?),
             "plan" => self.plan(words, printed),
             "run" => self.run(words, printed),
             _ => self.carry(Task::Call(Call::of_verb(verb, words)), None, printed),
         }
     }
 
-    // Keeps bytes under a name.
+    // Stores bytes under a name.
     fn keep(&mut self, words: &str, printed: &mut String) -> Result<(), CaseFault> {
         let (name, parts) = first_word(words);
         let bytes = bytes_of(self.alloc, &self.store, parts)?;
@@ -258,7 +261,7 @@ impl<'t> Bench<'t> {
         self.store.keep(self.alloc, name, bytes)
     }
 
-    // Puts a line of text after a file, which may be new.
+    // Adds a line of text to the end of a file, which may be new.
     fn keep_line(&mut self, words: &str, printed: &mut String) -> Result<(), CaseFault> {
         let (name, text) = words.split_once(' ').unwrap_or((words, ""));
         let mut bytes = Vec::new(self.alloc);
@@ -318,7 +321,7 @@ impl<'t> Bench<'t> {
         Ok(())
     }
 
-    // What the words of a line ask for, which stand after the program's name.
+    // The line for these words, which follow the program's name.
     fn read(&self, words: &str) -> Result<Line, LineFault> {
         let mut all = Vec::new(self.alloc);
         all.push("symarch")?;
@@ -328,7 +331,7 @@ impl<'t> Bench<'t> {
         parse_command_line(self.alloc, &all)
     }
 
-    // Prints what a command line asks for.
+    // Prints the plan of a command line.
     fn plan(&self, words: &str, printed: &mut String) -> Result<(), CaseFault> {
         match self.read(words) {
             Ok(line) => print_line(&line, printed)?,
@@ -356,7 +359,7 @@ impl<'t> Bench<'t> {
         folder.run(words, most, printed)
     }
 
-    // Carries out a case, keeps what it left in OUT under its name, and sets what holds for the next one back.
+    // Carries out a case, stores the bytes in OUT under its name, and resets the limits for the next one.
     fn carry(
         &mut self,
         task: Task,
@@ -383,7 +386,7 @@ impl<'t> Bench<'t> {
         }
     }
 
-    // Keeps OUT under its name, where it took bytes.
+    // Stores OUT under its name, if it received bytes.
     fn keep_out(&mut self, name: Option<&str>, out: Vec<u8>) -> Result<(), CaseFault> {
         match name {
             Some(name) if !out.is_empty() => self.store.keep(self.alloc, name, out),
@@ -399,7 +402,7 @@ fn file_limit(words: &str) -> Result<FileLimit<'_>, CaseFault> {
     Ok(FileLimit { name, len })
 }
 
-// Prints where it makes a difference that the archive is the other one, or that the inputs come in small pieces.
+// Prints an error if the other archive type, or inputs in small pieces, have another result.
 fn print_rest(desk: Desk, task: Task, left: &Left, printed: &mut String) -> Result<(), CaseFault> {
     for (tried, pieces) in [(Tried::Plain, 1), (Tried::Indexed, 7)] {
         let mut other = Desk { tried, ..desk };

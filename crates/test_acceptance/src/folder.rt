@@ -9,7 +9,7 @@ use std::rt::Files;
 use std::{fs, process};
 use test_parts::{CaseFault, Store, StrictSink, first_word, print_report, words_of};
 
-/// A folder, whose files a command line names by words that begin with `@`.
+/// A folder, whose files are named by words of a command line that begin with `@`.
 #[derive(Drop)]
 pub struct Folder<'a, R> {
     rt: &'a R,
@@ -18,7 +18,7 @@ pub struct Folder<'a, R> {
 }
 
 impl<'a> Folder<'a, HostRuntime> {
-    /// An empty folder, which no other run has.
+    /// An empty folder, of this run alone.
     pub fn create(rt: &'a HostRuntime) -> io::Result<Self> {
         let process = process::id(rt.process());
         let path = format!(in rt.alloc(); "/tmp/symarch_rows_{process}")?;
@@ -63,7 +63,7 @@ impl<'a, R: Files + AllocGlobal> Folder<'a, R> {
         Ok(())
     }
 
-    /// Reads a file of the folder into memory, and tells the number of its bytes, or that it is not there.
+    /// Reads a file of the folder into memory, and prints the number of its bytes, or that it does not exist.
     pub fn fetch(
         &self,
         store: &mut Store,
@@ -80,13 +80,13 @@ impl<'a, R: Files + AllocGlobal> Folder<'a, R> {
         store.keep(self.rt.alloc(), name, bytes)
     }
 
-    /// Carries out the words of a command line over files of the folder, with a report that takes so many bytes, and
-    /// tells the report, standard error, and the status.
+    /// Carries out the words of a command line over files of the folder, with a report that accepts `most` bytes, and
+    /// prints the report, standard error, and the status.
     pub fn run(&self, words: &str, most: usize, printed: &mut String) -> Result<(), CaseFault> {
         self.print_run(Ok(self.line_of(words)?), most, printed)
     }
 
-    /// The same of words that could not be read: one is no text, or there was no memory for them.
+    /// The same for words that could not be read: one is not UTF-8 text, or there was no memory for them.
     pub fn run_unread(&self, why: &str, printed: &mut String) -> Result<(), CaseFault> {
         let error = match why {
             "text" => ErrorKind::InvalidData,
@@ -111,7 +111,7 @@ impl<'a, R: Files + AllocGlobal> Folder<'a, R> {
         Ok(writeln!(printed, "  status {status}")?)
     }
 
-    // The words of a command line, which stand after the program's name.
+    // The words of a command line, after the program's name.
     fn line_of(&self, words: &str) -> Result<Vec<String>, NoMemory> {
         let mut line = Vec::new(self.rt.alloc());
         line.push(String::from_str(self.rt.alloc(), "symarch")?)?;
@@ -124,7 +124,7 @@ impl<'a, R: Files + AllocGlobal> Folder<'a, R> {
         Ok(line)
     }
 
-    // Prints the lines of standard error, in which `@` stands for the folder.
+    // Prints the lines of standard error, with `@` for the folder.
     fn print_errors(&self, errors: &[u8], printed: &mut String) -> Result<(), CaseFault> {
         let text = str::from_utf8(errors).ok().ok_or(CaseFault::BadLine)?;
         for line in text.lines() {

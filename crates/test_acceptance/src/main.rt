@@ -1,16 +1,16 @@
 //! `test_acceptance`: worked rows, carried out over devices in memory.
 //!
-//! It reads texts of cases, carries each line out through the line reader and the engines of the commands, or by a call
-//! below them, over memory or over files of the system, and compares what comes of it with the lines after it. A word
-//! of its command line names a subject, or a case, `SUBJECT/CASE`; without words all subjects are carried out. Of each
-//! it says whether all is as it stands, and prints the lines that came otherwise. What the lines are made of is in
-//! `test_parts`, and what they call in `test_calls`.
+//! It reads texts of cases, carries each line out by the parser of command lines and the engines of the commands, or by
+//! a call below them, over memory or over files of the system, and compares the result with the lines after it. A word
+//! of its command line names a subject, or a case, `SUBJECT/CASE`; without words all subjects are carried out. For each
+//! it prints whether all results are as expected, and the lines whose results are not. The parts of the lines are in
+//! `test_parts`, and the calls in `test_calls`.
 //!
 //! - `texts`: the texts of cases;
-//! - `verdicts`: whether what came is what has to come;
+//! - `verdicts`: whether the results are the expected ones;
 //! - `folder`: files of the system;
 //! - `commands`: a line, carried out; `tasks`: that, or a call;
-//! - `sweeps`: one case at each place of a device;
+//! - `sweeps`: one case at each point of a device;
 //! - `cases`: the lines of cases, their language.
 #![tactic(auto)]
 
@@ -42,7 +42,7 @@ fn main(rt: HostRuntime) -> ExitCode {
     }
 }
 
-// Prints what came of all that was asked for, and gives the exit code of the run.
+// Prints the results of all that was requested, and returns the exit code of the run.
 fn end<R: Print>(rt: &R, outcomes: &[Outcome]) -> ExitCode
     ensures { exit_status result ≡ 0 → All CameAsItStands outcomes.now }
 {
@@ -54,7 +54,7 @@ fn end<R: Print>(rt: &R, outcomes: &[Outcome]) -> ExitCode
     exit_code(outcomes)
 }
 
-// Carries out what the words of the command line name, or all subjects where there is none.
+// Carries out the subjects and cases that the words of the command line name, or all subjects if there is no word.
 fn run_selected(rt: &HostRuntime) -> io::Result<Vec<Outcome>> {
     let texts = Texts::find(rt)?;
     let mut words: Vec<String> = env::args(rt)?.skip(1).collect(rt.alloc())?;
@@ -87,7 +87,7 @@ fn run_subject_or_case(
     steps
 }
 
-// Prints the lines that came otherwise, and whether there is none.
+// Prints the lines with unexpected results, and whether there are any.
 fn print_outcome<R: Print>(rt: &R, outcome: &Outcome) -> io::Result<()> {
     let word = outcome.word.as_str();
     match &outcome.ended {
@@ -97,7 +97,7 @@ fn print_outcome<R: Print>(rt: &R, outcome: &Outcome) -> io::Result<()> {
     println!(rt; "{word}: {}", outcome.verdict())
 }
 
-// Prints the lines that came otherwise, each under the name of its case.
+// Prints the lines with unexpected results, each under the name of its case.
 fn print_others<R: Print>(rt: &R, word: &str, steps: &[Step]) -> io::Result<()> {
     let mut case = "";
     for step in steps {
@@ -113,7 +113,7 @@ fn print_others<R: Print>(rt: &R, word: &str, steps: &[Step]) -> io::Result<()> 
     Ok(())
 }
 
-// Prints a line, and from the first one on that differs what has to come of it and what came.
+// Prints a line, and its expected and actual results from the first difference on.
 fn print_other<R: Print>(rt: &R, step: &Step, first: usize) -> io::Result<()> {
     println!(rt; "{}", step.line)?;
     for wanted in step.wanted.lines().skip(first) {

@@ -5,8 +5,8 @@ use memory::NoMemory;
 use test_calls::{Desk, Tried, outcome_at};
 use test_parts::{CaseFault, Left, Sweep};
 
-/// Carries out a case at each point of a sweep, the last of which is the uncut one, and tells the points in groups of
-/// one outcome.
+/// Carries out a case at each point of a sweep, the last of which has no limit, and prints the points in groups with
+/// one result.
 pub fn print_sweep<'a>(
     desk: Desk<'a>,
     sweep: Sweep<'a>,
@@ -23,7 +23,7 @@ pub fn print_sweep<'a>(
     Ok(())
 }
 
-// Carries out a case at each point, and tells points in a row that have one outcome in one line.
+// Carries out a case at each point, and prints consecutive points with one result in one line.
 fn sweep_points<'a>(
     desk: Desk<'a>,
     sweep: Sweep<'a>,
@@ -48,7 +48,7 @@ fn sweep_points<'a>(
     Ok(groups)
 }
 
-// Prints the outcome of the points from one to before another, if there are some.
+// Prints the result of the points from `first`, included, to `end`, excluded, if there are any.
 fn print_group(
     first: usize,
     end: usize,
@@ -73,11 +73,11 @@ fn last_point(desk: Desk, sweep: Sweep, whole: &Left) -> Result<usize, CaseFault
     }
 }
 
-// How many growths are granted at most before a sweep of them gives up.
+// The greatest number of growths before a sweep of them gives up.
 const MOST_GROWTHS: u64 = 100_000;
 
-/// Carries out a case on either archive with each number of growths from 0 on, until it meets no refusal, however it
-/// ends then, and tells how many met one. A sweep that meets none shows nothing.
+/// Carries out a case on each archive type with each number of growths from 0 on, until none is refused, whatever the
+/// result, and prints the number of runs with a refusal. A sweep without one shows nothing.
 pub fn print_growths(desk: Desk, task: Task, printed: &mut String) -> Result<(), CaseFault> {
     let whole = task.carry_out(desk)?;
     for tried in Tried::BOTH {
@@ -109,7 +109,7 @@ fn print_refusals(
     Ok(writeln!(printed, "  WRONG: every run was refused on {tried:?}")?)
 }
 
-// Prints how many runs met a refusal, and whether the first that met none left what ample memory leaves.
+// Prints the number of runs with a refusal, and whether the first run without one has the outputs of ample memory.
 fn print_last_growth(
     tried: Tried,
     growths: u64,

@@ -1,4 +1,4 @@
-//! What a case asks for: a command line, or a call below the commands.
+//! The task of a case: a command line, or a call below the commands.
 
 use crate::commands::run_line;
 use archive_index::{IndexedArchive, PlainArchive};
@@ -6,7 +6,7 @@ use cli_arguments::{Line, Plan};
 use test_calls::{Call, Desk, Tried};
 use test_parts::{CaseFault, Left};
 
-/// What a case asks for.
+/// The task of a case.
 #[derive(Clone, Copy)]
 pub enum Task<'t> {
     Run(&'t Line),
@@ -31,7 +31,7 @@ impl<'t> Task<'t> {
         }
     }
 
-    /// Carries out what a case asks for, on the archive that is tried.
+    /// Carries out the task of a case, on the archive type that is tried.
     pub fn carry_out(self, desk: Desk<'t>) -> Result<Left, CaseFault> {
         match self {
             Task::Run(line) => Ok(match desk.tried {

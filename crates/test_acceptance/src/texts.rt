@@ -1,7 +1,7 @@
-//! The texts of cases: a file a subject, and those that subjects share.
+//! The texts of cases: one file for each subject, and those that subjects share.
 //!
-//! They stand in the folders `cases` and `shared`, which are where the program runs, or in `data` there. A line
-//! `use NAME` of a subject stands for the lines of `shared/NAME`.
+//! They are in the folders `cases` and `shared` of the folder where the program runs, or of `data` there. A line `use
+//! NAME` of a subject is replaced by the lines of `shared/NAME`.
 
 use memory::NoMemory;
 use std::alloc::Global;
@@ -39,7 +39,7 @@ pub struct Texts<'a, R> {
 }
 
 impl<'a, R: Files + AllocGlobal> Texts<'a, R> {
-    /// Finds them.
+    /// Finds the folders.
     pub fn find(rt: &'a R) -> io::Result<Self> {
         let root = if fs::exists(rt, "cases")? {
             "."
@@ -49,7 +49,7 @@ impl<'a, R: Files + AllocGlobal> Texts<'a, R> {
         Ok(Texts { rt, root })
     }
 
-    /// The text of a subject, with what it uses.
+    /// The text of a subject, with the files that it uses.
     pub fn read(&self, subject: &str) -> Result<String, TextFault> {
         let mut text = String::new(self.rt.alloc());
         for line in self.file("cases", subject)?.lines() {
@@ -70,7 +70,7 @@ impl<'a, R: Files + AllocGlobal> Texts<'a, R> {
 }
 
 impl<R: Files + AllocGlobal + Clone + Drop> Texts<'_, R> {
-    /// The names of all subjects, in their order.
+    /// The names of all subjects, in order.
     pub fn subjects(&self) -> io::Result<Vec<String>> {
         let path = format!(in self.rt.alloc(); "{}/cases", self.root)?;
         let mut names = Vec::new(self.rt.alloc());
@@ -82,7 +82,7 @@ impl<R: Files + AllocGlobal + Clone + Drop> Texts<'_, R> {
     }
 }
 
-/// Tests that a text has cases, each with a name of its own and with lines that have to come.
+/// Tests that a text has cases, each with a name of its own and with expected results.
 pub fn check_cases(alloc: Global, text: &str) -> Result<(), TextFault> {
     let mut names = Vec::new(alloc);
     for case in text.split("\n= ").skip(1) {
@@ -101,7 +101,7 @@ pub fn check_cases(alloc: Global, text: &str) -> Result<(), TextFault> {
     Ok(())
 }
 
-/// What stands above a case of a text, and its own lines.
+/// The lines above a case of a text, and its own lines.
 pub fn cut_case<'t>(
     alloc: Global,
     text: &'t str,

@@ -1,4 +1,4 @@
-//! Whether what came is what has to come: all that is tested rests on it.
+//! Whether the results are the expected ones: all tests depend on it.
 
 ghost use Rattle.std.specs.Prelude.{◌≡◌, ◌↔◌, ◌≤◌, All, IfSome, IsTrue, None, codes, length, string_bytes};
 ghost use Rattle.std.specs.Process.{exit_status};
@@ -11,12 +11,12 @@ use std::process::ExitCode;
 #[derive(Drop)]
 pub struct Step {
     pub line: String,
-    /// What has to come of it, as it stands after the line.
+    /// Its expected result, as written after the line.
     pub wanted: String,
     pub came: String,
 }
 
-/// What came of a word of the command line.
+/// The result of a word of the command line.
 #[derive(Drop)]
 pub struct Outcome {
     /// A subject, or a subject and a case.
@@ -25,7 +25,7 @@ pub struct Outcome {
     pub ended: Result<Vec<Step>, TextFault>,
 }
 
-// How many bytes two texts have in common before they part.
+// The length of the common beginning of two texts.
 #[tactic(auto, using(crate::proofs::Partings::same_at, crate::proofs::Partings::other_at, crate::proofs::Partings::wanted_ends, crate::proofs::Partings::came_ends))]
 fn common_length(wanted: &[u8], came: &[u8]) -> usize
     ensures value { result ≡ common_length wanted.now came.now }
@@ -38,7 +38,7 @@ fn common_length(wanted: &[u8], came: &[u8]) -> usize
     at
 }
 
-/// The first line, counted from 0, in which what has to come and what came differ, if they do.
+/// The first line, counted from 0, that differs between the expected and the actual result, if any.
 pub fn first_other_line(wanted: &str, came: &str) -> Option<usize>
     ensures same { result ≡ None ↔ wanted.now ≡ came.now }
     ensures other { IfSome result (λ line. line ≡ parting_line wanted.now came.now) }
@@ -52,7 +52,7 @@ pub fn first_other_line(wanted: &str, came: &str) -> Option<usize>
 }
 
 impl Step {
-    /// The first line of what has to come, counted from 0, that came otherwise, if one did.
+    /// The first line of the expected result, counted from 0, that differs, if any.
     pub fn first_other_line(&self) -> Option<usize>
         ensures same { result ≡ None ↔ IsAsItStands self.now }
         ensures other { IfSome result (λ line. line
@@ -62,7 +62,7 @@ impl Step {
     }
 }
 
-// Whether each of the lines came as it stands.
+// Whether each of the lines has the expected result.
 fn all_as_they_stand(steps: &[Step]) -> bool
     ensures { IsTrue result ↔ All IsAsItStands steps.now }
 {
@@ -75,7 +75,7 @@ fn all_as_they_stand(steps: &[Step]) -> bool
 }
 
 impl Outcome {
-    /// Whether what was asked for was carried out, and each of its lines came as it stands.
+    /// Whether the requested lines were carried out, and each has the expected result.
     pub fn came_as_it_stands(&self) -> bool
         ensures { IsTrue result ↔ CameAsItStands self.now }
     {
@@ -85,7 +85,7 @@ impl Outcome {
         }
     }
 
-    /// What is said of it in the end.
+    /// The text that is printed for it at the end.
     pub fn verdict(&self) -> &'static str
         ensures stands { CameAsItStands self.now → result.now ≡ codes "as it stands" }
         ensures other { ¬ CameAsItStands self.now → result.now ≡ codes "came otherwise" }
@@ -98,7 +98,7 @@ impl Outcome {
     }
 }
 
-/// The exit code of a run: success where all that was asked for came as it stands.
+/// The exit code of a run: success if all that was requested has the expected results.
 pub fn exit_code(outcomes: &[Outcome]) -> ExitCode
     ensures { exit_status result ≡ 0 ↔ All CameAsItStands outcomes.now }
 {

@@ -9,9 +9,10 @@ use archive_index::{IndexedArchive, PlainArchive};
 use memory::Heap;
 use test_parts::{
     CaseFault, End, Ended, Failing, Left, Picked, Texts, addresses_of, bytes_of, first_word,
-    number, print_asked, print_fat, print_front, print_heaps, print_image, print_kind,
-    print_merging, print_named, print_nearest, print_operations, print_pairs, print_part,
-    print_reading, print_slice, print_summary, print_text, print_whole, print_writing, text_of,
+    number, print_fat, print_front, print_heaps, print_image, print_kind, print_merging,
+    print_named, print_nearest, print_operations, print_pairs, print_part, print_reading,
+    print_slice, print_strict_devices, print_summary, print_text, print_whole, print_writing,
+    text_of,
 };
 use text_inputs::{Script, read_script};
 
@@ -19,14 +20,14 @@ use text_inputs::{Script, read_script};
 #[derive(Clone, Copy)]
 pub struct Call<'t> {
     verb: &'t str,
-    /// The file that it is made over.
+    /// The file that the call reads.
     name: &'t str,
-    /// What it is given, and what is asked.
+    /// Its arguments, and the questions.
     words: &'t str,
 }
 
 impl<'t> Call<'t> {
-    /// The call of a verb, over the file that the first of its words names.
+    /// The call of a verb, for the file that the first word names.
     pub fn of_verb(verb: &'t str, words: &'t str) -> Call<'t> {
         let (name, words) = first_word(words);
         Call { verb, name, words }
@@ -34,7 +35,7 @@ impl<'t> Call<'t> {
 }
 
 impl<'a> Desk<'a> {
-    /// Makes a call on the archive that is tried, and tells what it gives.
+    /// Makes a call on the archive type that is tried, and returns its outputs.
     pub fn make(self, call: Call<'a>) -> Result<Left, CaseFault> {
         let mut printed = String::new(self.alloc);
         let ended = match self.tried {
@@ -49,7 +50,7 @@ impl<'a> Desk<'a> {
         })
     }
 
-    // Makes a call, and tells what it gives.
+    // Makes a call, and prints its result.
     fn call<A: Archive + Drop>(
         self,
         call: Call<'a>,
@@ -73,7 +74,7 @@ impl<'a> Desk<'a> {
                 let (failing, size) = failing_of(call.words)?;
                 print_reading(bytes, failing, size, printed)
             }
-            "asked" => print_asked(bytes, printed),
+            "asked" => print_strict_devices(bytes, printed),
             "writing" => {
                 let (failing, size) = failing_of(call.words)?;
                 print_writing(bytes, failing, size, printed)
@@ -109,7 +110,7 @@ impl<'a> Desk<'a> {
         })
     }
 
-    // Makes a call on archives, or at sites.
+    // Makes a call on archives, or on sites.
     fn call_on_archives<A: Archive + Drop>(
         self,
         call: Call<'a>,
@@ -132,7 +133,7 @@ impl<'a> Desk<'a> {
         })
     }
 
-    // A call on an archive, or at a site, of which the words say the rest.
+    // A call on an archive, or on a site; the words are its other arguments.
     fn change(self, call: Call<'a>) -> Result<Change<'a>, CaseFault> {
         let (verb, saved, words) = self.act(call)?;
         let (input, questions) = if saved.is_none() && verb == "ask" {
@@ -151,7 +152,7 @@ impl<'a> Desk<'a> {
         })
     }
 
-    // What is done to an archive, or at a site that has saved one, and the words after that.
+    // The verb of a call on an archive, or on a site with the text of its saved archive; and the words after these.
     fn act(self, call: Call<'a>) -> Result<(&'a str, Option<&'a [u8]>, &'a str), CaseFault> {
         if call.verb != "site" {
             return Ok((call.verb, None, call.words));
@@ -161,7 +162,7 @@ impl<'a> Desk<'a> {
         Ok((verb, Some(self.given(saved)?), words))
     }
 
-    // Two archives and operations, of which the words say the rest.
+    // Two archives and operations, named by the words.
     fn texts(self, call: Call<'a>) -> Result<Texts<'a>, CaseFault> {
         let (other, operations) = first_word(call.words);
         Ok(Texts {
@@ -172,7 +173,7 @@ impl<'a> Desk<'a> {
         })
     }
 
-    // What a call is given: the bytes of a file, or nothing.
+    // The argument of a call: the bytes of a file, or nothing.
     fn given(self, name: &str) -> Result<&'a [u8], CaseFault> {
         match name {
             "-" => Ok(&[]),
@@ -180,20 +181,21 @@ impl<'a> Desk<'a> {
         }
     }
 
-    // The bytes of a file that has to be there.
+    // The bytes of a file that must exist.
     fn named(self, name: &str) -> Result<&'a [u8], CaseFault> {
         self.bytes(name).ok_or(CaseFault::BadLine)
     }
 }
 
-// How a stream fails, and how many bytes move at a time.
+// The failure of a stream, and the number of bytes moved at a time.
 fn failing_of(words: &str) -> Result<(Failing, usize), CaseFault> {
     let (failing, size) = first_word(words);
     let failing = Failing::of_word(failing).ok_or(CaseFault::BadLine)?;
     Ok((failing, number(size)? as usize))
 }
 
-// Carries out the events of a script on so many sites, and tells how many there were, and what each site holds.
+// Carries out the events of a script on this number of sites, and prints the number of events, and the content of each
+// site.
 fn print_world<A: Archive + Drop>(
     heap: Heap,
     script: &Script,

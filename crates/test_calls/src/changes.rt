@@ -1,14 +1,14 @@
-//! Calls that may change an archive, and what they leave where memory is refused.
+//! Calls that may change an archive, and the archive that they leave if memory is refused.
 
 use crate::subjects::{Change, Observation, Subject};
 use archive_core::Archive;
 use memory::{Heap, NoMemory};
 use test_parts::{CallFault, Ended, answers_of, print_text, read};
 
-/// Makes a call, and tells what it gives and what is there then.
+/// Makes a call, and prints its result and the archive afterwards.
 ///
-/// Where memory is refused, what is there has to be what the call promises, and the call made again has to come to what
-/// it comes to with ample memory.
+/// If memory is refused, the archive must be as the call promises, and the repeated call must have the result that it
+/// has with ample memory.
 pub fn print_change<A: Archive + Drop>(change: Change, printed: &mut String) -> Ended {
     let heap = Heap::new(change.alloc)?;
     let mut subject = Subject::<A>::begin(&heap, change)?;
@@ -43,7 +43,7 @@ fn print_seen(seen: &Observation, change: Change, printed: &mut String) -> Resul
     printed.push_str(&seen.answers)
 }
 
-// Prints where an archive that is read from the text of another one answers otherwise.
+// Prints an error if an archive that is read from the text of another one has other answers.
 fn print_other_answers<A: Archive + Drop>(
     seen: &Observation,
     change: Change,
@@ -60,7 +60,7 @@ fn print_other_answers<A: Archive + Drop>(
     Ok(())
 }
 
-// What is seen before the call.
+// The observation before the call.
 fn seen_before<A: Archive + Drop>(
     change: Change,
     printed: &mut String,
@@ -69,7 +69,7 @@ fn seen_before<A: Archive + Drop>(
     Subject::<A>::begin(&heap, change)?.see(&heap, change, printed)
 }
 
-// How the call ends, and what is seen then.
+// The result of the call, and the observation after it.
 fn seen_after<A: Archive + Drop>(
     change: Change,
     printed: &mut String,
@@ -81,7 +81,7 @@ fn seen_after<A: Archive + Drop>(
     Ok((ended, subject.see(&heap, change, printed)?))
 }
 
-// Prints where a refused call left what it does not promise.
+// Prints an error if a refused call left an archive that it does not promise.
 fn print_stopped<A: Archive + Drop>(change: Change, printed: &mut String) -> Ended {
     let (_, stopped) = seen_after::<A>(change, printed)?;
     print_other_answers::<A>(&stopped, change, printed)?;
@@ -98,7 +98,8 @@ fn print_stopped<A: Archive + Drop>(change: Change, printed: &mut String) -> End
     Ok(())
 }
 
-// Whether what is held is between what was held before and what is held in the end, and what is saved one of the two.
+// Whether the held content is between that before the call and that after a whole call, and the saved one is one of the
+// two.
 fn is_between<A: Archive + Drop>(
     change: Change,
     before: &Observation,
@@ -112,7 +113,7 @@ fn is_between<A: Archive + Drop>(
     Ok(is_one_saved && held.covers(&least) && most.covers(&held))
 }
 
-// Prints where a refused call, made again, comes to something else than it comes to at once.
+// Prints an error if a refused call that is repeated has another result than at once.
 fn print_again<A: Archive + Drop>(
     mut subject: Subject<A>,
     heap: &Heap,

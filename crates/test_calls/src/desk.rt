@@ -1,4 +1,4 @@
-//! What a case goes over: files in memory, and what its devices give and take.
+//! The surroundings of a case: files in memory, and the limits of its devices.
 
 ghost use Rattle.std.specs.Prelude.{◌≡◌, [], None, option_map};
 ghost use Rattle.std.specs.BTreeMap.{get_by_text};
@@ -10,7 +10,7 @@ use std::alloc::Global;
 use std::io::ErrorKind;
 use test_parts::{CaseFault, Limits, Store, StrictSource};
 
-/// The archive that a case is tried on.
+/// The archive type on which a case is tried.
 #[derive(Clone, Copy, Debug)]
 pub enum Tried {
     Plain,
@@ -18,11 +18,11 @@ pub enum Tried {
 }
 
 impl Tried {
-    /// Both, of which the first one's answers are told, and another answer of the other.
+    /// Both. The answers of the first are printed, and those of the other if they differ.
     pub const BOTH: [Tried; 2] = [Tried::Plain, Tried::Indexed];
 }
 
-/// What a case goes over.
+/// The surroundings of a case.
 #[derive(Clone, Copy)]
 pub struct Desk<'a> {
     pub alloc: Global,
@@ -39,7 +39,7 @@ impl<'a> Desk<'a> {
         Ok(heap)
     }
 
-    /// A file that is read, as far as it is not cut.
+    /// A file that is read, up to its cut.
     pub fn input(self, name: &str) -> Result<StrictSource<'a>, CannotOpen>
         ensures { self.entry.limits.cut ≡ None
             → IsOpened ⟦<StrictSource<'a> as Source>⟧.left
@@ -55,7 +55,7 @@ impl<'a> Desk<'a> {
         Ok(StrictSource::new(bytes, size, self.limits.given_of(name)))
     }
 
-    /// A file that is read from any place, as far as it is not cut.
+    /// A file that is read at any offset, up to its cut.
     pub fn places(self, name: &str) -> Result<PlacedPieces<'a>, CannotOpen>
         ensures { self.entry.limits.cut ≡ None
             → IsOpened ⟦<PlacedPieces<'a> as Placed>⟧.whole
@@ -71,12 +71,12 @@ impl<'a> Desk<'a> {
         Ok(PlacedPieces::new(bytes, size, self.limits.given_of(name)))
     }
 
-    /// The same of a file that has to be there, and is read from its start.
+    /// The same for a file that must exist, and is read from its start.
     pub fn source(self, name: &str) -> Result<StrictSource<'a>, CaseFault> {
         self.input(name).ok().ok_or(CaseFault::BadLine)
     }
 
-    /// The bytes of a file, as far as it is not cut.
+    /// The bytes of a file, up to its cut.
     pub fn bytes(self, name: &str) -> Option<&'a [u8]>
         ensures { self.entry.limits.cut ≡ None → option_map (λ b. b.now) result
             ≡ option_map (λ v. v.items) (get_by_text self.entry.store.now.files name.now) }

@@ -19,7 +19,7 @@ impl<'a> Disk for Desk<'a> {
 
     type Places = PlacedPieces<'a>;
 
-    // Of files nothing is known where one of them is cut.
+    // Nothing is known of files if one of them is cut.
     ghost file_at = { λ desk path. if is_some desk.limits.cut then Unknown
         else file_of (option_map (λ v. v.items) (get_by_text desk.store.now.files path)) };
 
@@ -49,10 +49,10 @@ impl<'a> Disk for Desk<'a> {
     }
 }
 
-/// An input of a line, which is at its place on the command line.
+/// An input of a line, at its position on the command line.
 pub type Input<'l, 'a> = LazyInput<'l, Desk<'a>>;
 
-/// Makes an input for each of these paths, of which the first so many have memory to be opened.
+/// Makes an input for each of these paths. There is memory to open a limited number of the first ones.
 pub fn make_inputs<'l, 'a>(
     mut desk: Desk<'a>,
     paths: &[&'l str],

@@ -1,9 +1,9 @@
-//! What cases of `test_acceptance` go over, and calls below the commands, carried out.
+//! The surroundings of the cases of `test_acceptance`, and calls below the commands, carried out.
 //!
-//! - `desk`: files in memory, and what their devices give and take; `inputs`: they as the inputs of a line;
-//! - `subjects`, `changes`: calls that may change an archive, and what they leave if memory is refused;
+//! - `desk`: files in memory, and the limits of their devices; `inputs`: these files as the inputs of a line;
+//! - `subjects`, `changes`: calls that may change an archive, and the archive that they leave if memory is refused;
 //! - `calls`: calls below the commands;
-//! - `outcomes`: how a case ended at one place of a device.
+//! - `outcomes`: the result of a case at one point of a device.
 #![tactic(auto)]
 
 mod calls;

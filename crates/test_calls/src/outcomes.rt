@@ -1,11 +1,11 @@
-//! How a case ended at a point of a sweep, beside the whole case.
+//! The result of a case at a point of a sweep, compared with the whole case.
 
 use command_common::{CommandFault, Failure};
 use memory::NoMemory;
 use std::alloc::Global;
 use test_parts::{End, Left};
 
-/// How a case at a point of a sweep ended, as it is printed, with the numbers left out that are the point's own.
+/// The printed result of a case at a point of a sweep, without the numbers that are the point itself.
 pub fn outcome_at(
     alloc: Global,
     point: usize,
@@ -34,7 +34,7 @@ pub fn outcome_at(
     Ok(text)
 }
 
-// The output that failed where the point is the number that is told.
+// The output that failed, if it reports the point as its number of bytes.
 fn failed_there(point: usize, end: End) -> Option<&'static str> {
     match end {
         End::Command(Err(Failure::Command(CommandFault::Output(written))))
@@ -54,7 +54,8 @@ fn point_of(device: &str, failed: Option<&str>, point: usize) -> Option<usize> {
     }
 }
 
-// Adds what an output has of what the whole case gave it, where it failed at a point without that number.
+// Adds which part of the whole case's output this output is; without its length if that is the point at which it
+// failed.
 fn push_kept(
     text: &mut String,
     bytes: &[u8],

@@ -1,4 +1,4 @@
-//! What a call may change: an archive by itself, or a site.
+//! The subject of a call that may change it: an archive by itself, or a site.
 
 use archive_core::{Archive, Operation, Slice, take_all};
 use archive_exchange::Site;
@@ -14,26 +14,26 @@ use test_parts::{
 };
 use text_reports::Text;
 
-/// A call that may change an archive, and what is asked then.
+/// A call that may change an archive, and the questions after it.
 #[derive(Clone, Copy)]
 pub struct Change<'a> {
     pub alloc: Global,
-    /// The verb of the case: a call on an archive, or at a site.
+    /// The verb of the case: a call on an archive, or on a site.
     pub verb: &'a str,
     /// The text of the archive that is held.
     pub held: &'a [u8],
-    /// The text of the archive that a site has saved; none where the call is on an archive.
+    /// The text of the archive that a site has saved; `None` if the call is on an archive.
     pub saved: Option<&'a [u8]>,
-    /// What the call is given.
+    /// The argument of the call.
     pub input: &'a [u8],
-    /// How many growths are granted for it.
+    /// The number of growths that are granted for it.
     pub growths: u64,
-    /// The words of what is asked.
+    /// The words of the questions.
     pub questions: &'a str,
 }
 
 impl Change<'_> {
-    /// Whether a part of it may be done where memory is refused.
+    /// Whether a part of it may be done if memory is refused.
     pub fn is_done_in_parts(self) -> bool {
         match self.saved {
             None => self.verb != "ask",
@@ -48,14 +48,14 @@ impl Change<'_> {
     }
 }
 
-/// What a call is made on.
+/// The subject of a call.
 #[derive(Drop)]
 pub enum Subject<A: Archive> {
     Archive(A),
     Site(Site<A>),
 }
 
-/// What is seen of it: the texts of what is held and of what is saved, and the answers.
+/// An observation of a subject: the texts of the held and of the saved archive, and the answers.
 #[derive(Drop, PartialEq, Eq)]
 pub struct Observation {
     pub held: Vec<u8>,
@@ -64,7 +64,7 @@ pub struct Observation {
 }
 
 impl<A: Archive + Drop> Subject<A> {
-    /// What the call is made on, before it.
+    /// The subject before the call.
     pub fn begin(heap: &Heap, change: Change) -> Result<Subject<A>, CallFault> {
         let Some(saved) = change.saved else {
             return Ok(Subject::Archive(read(heap.share(), change.held)?));
@@ -76,7 +76,7 @@ impl<A: Archive + Drop> Subject<A> {
         Ok(Subject::Site(site))
     }
 
-    /// Makes the call, and tells what it gives.
+    /// Makes the call, and prints its result.
     pub fn act(&mut self, heap: &Heap, change: Change, printed: &mut String) -> Ended {
         match self {
             Subject::Archive(archive) => print_on_archive(archive, heap, change, printed),
@@ -87,7 +87,7 @@ impl<A: Archive + Drop> Subject<A> {
         }
     }
 
-    /// Sees what is there, and then, at a site, what was saved.
+    /// Observes the held archive, and for a site then the saved one.
     pub fn see(
         mut self,
         heap: &Heap,
@@ -149,14 +149,14 @@ fn print_on_archive<A: Archive + Drop>(
     Ok(())
 }
 
-// The operations that a call is given, for which memory is held from here on.
+// The operations that are the argument of a call. From here on memory is limited to the granted growths.
 fn operations_of(heap: &Heap, change: Change) -> Result<Vec<Operation, Heap>, CallFault> {
     let operations = read_ops(heap.share(), &mut Bytes::new(change.input))?;
     heap.grant(change.growths);
     Ok(operations)
 }
 
-// The archive that a call is given. Tells how another one stands beside it.
+// The archive that is the argument of a call. Prints how the subject compares with it.
 fn other_of<A: Archive + Drop>(
     archive: &A,
     heap: &Heap,

@@ -1,6 +1,6 @@
-//! The addresses that words of a case spell.
+//! The addresses in the words of a case.
 //!
-//! A word is `0xHEX`, or `0xHEX..0xHEX/N`: from the first to before the second in steps of N.
+//! A word is `0xHEX`, or `0xHEX..0xHEX/N`: from the first, included, to the second, excluded, in steps of N.
 
 use crate::faults::CaseFault;
 use crate::parts::number;
@@ -25,7 +25,7 @@ fn push_word(addresses: &mut Vec<u64>, word: &str) -> Result<(), CaseFault> {
     push_steps(addresses, address(from)?, address(to)?, number(step)?)
 }
 
-// The addresses from one to before another in steps.
+// The addresses from one, included, to another, excluded, in steps.
 fn push_steps(addresses: &mut Vec<u64>, from: u64, to: u64, step: u64) -> Result<(), CaseFault> {
     let count = to.saturating_sub(from).div_ceil(step.max(1));
     for index in 0..count {
@@ -34,7 +34,7 @@ fn push_steps(addresses: &mut Vec<u64>, from: u64, to: u64, step: u64) -> Result
     Ok(())
 }
 
-/// The address that a word spells.
+/// The address of a word.
 pub fn address(word: &str) -> Result<u64, CaseFault> {
     let digits = word.strip_prefix("0x").ok_or(CaseFault::BadLine)?;
     Ok(u64::from_str_radix(digits, 16)?)

@@ -13,7 +13,7 @@ use std::alloc::Global;
 use text_reports::Text;
 use text_values::Spelled;
 
-/// Reads an archive's text from the front of an input, and tells what is left of it.
+/// Reads an archive's text from the start of an input, and prints how many bytes are left after it.
 pub fn print_front<A: Archive + Drop>(
     heap: Heap,
     source: &mut StrictSource,
@@ -24,7 +24,7 @@ pub fn print_front<A: Archive + Drop>(
     Ok(writeln!(printed, "{records} records, {left} bytes are left{end}")?)
 }
 
-// How many bytes an input still gives, and how it ends.
+// The number of bytes that an input still returns, and how it ends.
 fn count_left(source: &mut StrictSource) -> (u64, &'static str) {
     let mut byte = [0; 1];
     for left in 0..u64::MAX {
@@ -37,7 +37,7 @@ fn count_left(source: &mut StrictSource) -> (u64, &'static str) {
     (u64::MAX, " or more")
 }
 
-/// Reads an archive's text, and tells how many records it has, and how many entries its summary.
+/// Reads an archive's text, and prints its number of records, and the number of entries of its summary.
 pub fn print_whole<A: Archive + Drop>(
     heap: Heap,
     source: &mut StrictSource,
@@ -49,20 +49,20 @@ pub fn print_whole<A: Archive + Drop>(
     Ok(writeln!(printed, "{records} records, {entries} entries")?)
 }
 
-/// Reads operations, and tells how many there are.
+/// Reads operations, and prints their number.
 pub fn print_operations(heap: Heap, source: &mut StrictSource, printed: &mut String) -> Ended {
     let operations = read_ops(heap, source)?.len();
     Ok(writeln!(printed, "{operations} operations")?)
 }
 
-/// Reads a summary, and tells how many entries it has.
+/// Reads a summary, and prints its number of entries.
 pub fn print_summary(heap: Heap, source: &mut StrictSource, printed: &mut String) -> Ended {
     let entries = read_summary(heap, source)?.len();
     Ok(writeln!(printed, "{entries} entries")?)
 }
 
-/// Merges two archives as they come into an output that takes so many bytes, and tells how large the join is, or what
-/// stopped it, and what was written.
+/// Merges two archives as they are read into an output that accepts a limited number of bytes. Prints the sizes of the
+/// join, or the cause that stopped it, and the written bytes.
 pub fn print_merging(
     heap: &Heap,
     left: &mut StrictSource,
@@ -78,7 +78,7 @@ pub fn print_merging(
     Ok(print_text(out.as_slice(), printed)?)
 }
 
-// Prints what stopped a merge, and after how many bytes.
+// Prints the cause that stopped a merge, and the number of bytes written before.
 fn print_stopped(stopped: MergeFault, printed: &mut String) -> Result<(), NoMemory> {
     match stopped.cause {
         MergeCause::Left(fault) => write!(printed, "Left: {:?} at {}", fault.kind, fault.offset)?,
@@ -88,7 +88,7 @@ fn print_stopped(stopped: MergeFault, printed: &mut String) -> Result<(), NoMemo
     writeln!(printed, "; {} bytes written", stopped.written)
 }
 
-/// Takes operations into an archive in turn, and tells of each whether it was new.
+/// Adds operations to an archive in order, and prints for each whether it was new.
 pub fn print_each_taking<A: Archive>(
     archive: &mut A,
     operations: Vec<Operation, Heap>,
@@ -100,7 +100,7 @@ pub fn print_each_taking<A: Archive>(
     Ok(writeln!(printed, "{} records", archive.len())?)
 }
 
-// Takes an operation, and tells whether it was new. One that is refused leaves the archive as it was.
+// Adds an operation, and prints whether it was new. A refused one leaves the archive unchanged.
 fn print_taking<A: Archive>(archive: &mut A, operation: Operation, printed: &mut String) -> Ended {
     let alloc = *printed.allocator();
     let before = text_of(alloc, archive)?;
@@ -136,7 +136,7 @@ pub fn print_record(record: &Record, printed: &mut String) -> Result<(), NoMemor
     }
 }
 
-/// Reads an archive that is there whole.
+/// Reads an archive from a whole text.
 pub fn read<A: Archive + Drop>(heap: Heap, text: &[u8]) -> Result<A, RecordFault> {
     read_archive(heap, &mut Bytes::new(text))
 }
@@ -150,7 +150,7 @@ pub fn text_of<A: Archive>(alloc: Global, archive: &A) -> Result<Vec<u8>, NoMemo
     }
 }
 
-/// Prints how many records an archive has, and whether it has all of the other's.
+/// Prints the number of records of an archive, and whether it has all records of the other.
 pub fn print_beside<A: Archive>(
     archive: &A,
     other: &A,

@@ -1,10 +1,10 @@
-//! Numbers that go on from one copy of a file to the next.
+//! Numbers that advance from one copy of a file to the next.
 
 use crate::faults::CaseFault;
 use crate::parts::number;
 use std::alloc::Global;
 
-/// The number of a counter that went on so many times.
+/// The number of a counter after this number of steps.
 pub fn counted(counter: &str, times: u64) -> Result<u64, CaseFault> {
     if let Some((from, step)) = counter.split_once('+') {
         Ok(number(from)?.saturating_add(number(step)?.saturating_mul(times)))
@@ -30,7 +30,7 @@ pub fn spelled(alloc: Global, count: u64, form: &str) -> Result<Vec<u8>, CaseFau
     Ok(bytes)
 }
 
-// The last digits of a number to a base, the lowest first, each as the byte that is so far after that of 0.
+// The last digits of a number to a base, the lowest first; each is a byte, counted from the byte `zero`.
 fn lowest_first(
     alloc: Global,
     count: u64,

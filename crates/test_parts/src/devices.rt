@@ -1,5 +1,5 @@
-//! Devices that fail where they are asked as no device has to be: for no byte, or again after the end; or are given
-//! none. And a place for a text.
+//! Devices that fail at calls that no caller has to make: for no bytes, again after the end, or with no bytes. Also a
+//! target for a text.
 
 ghost use Rattle.std.specs.Prelude.{◌≡◌, ◌<◌, None, Some, [], false, if◌then◌else◌};
 
@@ -16,7 +16,7 @@ pub struct StrictSource<'a> {
 }
 
 impl<'a> StrictSource<'a> {
-    /// A device that will give these bytes, at most `size` at a time, and `limit` in all before it fails.
+    /// A device that will return these bytes, at most `size` at a time, and at most `limit` in all before it fails.
     pub fn new(bytes: &'a [u8], size: usize, limit: usize) -> Self
         requires { 0 < size }
         ensures left { ⟦<StrictSource<'a> as Source>⟧.left result ≡ Some bytes.now }
@@ -58,7 +58,7 @@ pub struct StrictSink {
 }
 
 impl StrictSink {
-    /// A device that holds no byte, and takes `limit` before it fails.
+    /// An empty device that accepts `limit` bytes before it fails.
     pub fn new(heap: Heap, limit: usize) -> Self
         ensures held { ⟦<StrictSink as Sink>⟧.held result ≡ Some [] }
         ensures failures { ⟦<StrictSink as Sink>⟧.failures result ≡ 0 }
@@ -69,14 +69,14 @@ impl StrictSink {
         }
     }
 
-    /// The bytes that it holds.
+    /// The bytes in it.
     pub fn as_slice(&self) -> &[u8]
         ensures { ⟦<StrictSink as Sink>⟧.held self.now ≡ Some result.now }
     {
         self.bytes.as_slice()
     }
 
-    /// Exchanges what it holds.
+    /// Exchanges the bytes in it.
     fn exchange(&mut self, bytes: &mut Short)
         ensures held { ⟦<StrictSink as Sink>⟧.held self.new ≡ ⟦<Short as Sink>⟧.held bytes.old }
         ensures bytes { ⟦<Short as Sink>⟧.held bytes.new ≡ ⟦<StrictSink as Sink>⟧.held self.old }
@@ -86,19 +86,19 @@ impl StrictSink {
     }
 }
 
-/// A place in memory, at which a text is put once.
+/// A target in memory, at which a text is published once.
 #[derive(Drop)]
 pub struct Shelf {
     bytes: Short,
     is_open: bool,
     is_published: bool,
     failures: u64,
-    // There is no byte before.
+    // It has no bytes before publication.
     ghost empty: { is_published ≡ false → ⟦<Short as Sink>⟧.held bytes ≡ Some [] },
 }
 
 impl Shelf {
-    /// A place at which nothing is, and at which only what is open can be put.
+    /// A target at which nothing was published. Publishing succeeds only if it is open.
     pub fn new(heap: Heap, is_open: bool) -> Self
         ensures published { ⟦<Shelf as Target>⟧.published result ≡ None }
         ensures failures { ⟦<Shelf as Target>⟧.failures result ≡ 0 }
@@ -111,7 +111,7 @@ impl Shelf {
         }
     }
 
-    /// What was put there.
+    /// The published bytes, if any.
     pub fn published(&self) -> Option<&[u8]> {
         if self.is_published {
             Some(self.bytes.as_slice())

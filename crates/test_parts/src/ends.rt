@@ -1,28 +1,28 @@
-//! How a case ends, and what it leaves.
+//! The result of a case, and its outputs.
 
 use crate::faults::{CallFault, Ended};
 use command_common::{CommandFault, Failure, Status, exit_status};
 use memory::NoMemory;
 use std::fmt;
 
-/// How a case ends.
+/// The result of a case.
 #[derive(Clone, Copy, PartialEq, Eq)]
 pub enum End {
-    /// A command is done or refused.
+    /// A command succeeded or was refused.
     Command(Result<Status, Failure>),
-    /// A call gave what its lines tell.
+    /// A call printed its result in its lines.
     Given,
     /// A call is refused.
     Fault(CallFault),
 }
 
 impl End {
-    /// How a command ends.
+    /// The result of a command.
     pub fn of_command(ended: Result<Status, CommandFault>) -> End {
         End::Command(ended.map_err(Failure::Command))
     }
 
-    /// How a call ends.
+    /// The result of a call.
     pub fn of_call(ended: Ended) -> End {
         match ended {
             Ok(()) => End::Given,
@@ -58,22 +58,22 @@ impl fmt::Display for End {
     }
 }
 
-/// What a case leaves, and how it ends.
+/// The outputs of a case, and its result.
 #[derive(Drop, PartialEq, Eq)]
 pub struct Left {
     pub end: End,
-    /// What was put in OUT's place, or else what its draft has.
+    /// The bytes published at OUT, or else those of its draft.
     pub out: Vec<u8>,
     /// Whether it is a draft that was not published.
     pub is_draft: bool,
-    /// The report of a command, or the lines that a call gives.
+    /// The report of a command, or the lines of a call.
     pub report: Vec<u8>,
 }
 
 impl Left {
-    /// Whether this may be left where memory runs out, beside what is left where it does not: of a command no report
-    /// and nothing published, and in OUT's draft nothing or the whole text, or any beginning where it writes as it
-    /// reads; of a call the first of its lines.
+    /// Whether these outputs are allowed if memory runs out, where `whole` are those with ample memory. A command must
+    /// leave no report and nothing published, and OUT's draft empty or complete, or any beginning of it if the command
+    /// writes as it reads; a call must leave a beginning of its lines.
     pub fn may_want_memory(&self, whole: &Left, writes_as_it_reads: bool) -> bool {
         match self.end {
             End::Given | End::Fault(_) => whole.report.starts_with(&self.report),

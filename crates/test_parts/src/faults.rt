@@ -1,4 +1,4 @@
-//! Why a case is not carried out, and why a call below the commands is refused.
+//! Why a case cannot be carried out, and why a call below the commands is refused.
 
 use archive_admission::TakeFault;
 use archive_core::{AdmitFault, SliceFault};
@@ -13,16 +13,16 @@ use std::io;
 use std::num::ParseIntError;
 use thiserror::Error;
 
-/// Why a case is not carried out.
+/// Why a case cannot be carried out.
 #[derive(Debug, Drop, Error)]
 pub enum CaseFault {
-    /// Its line has another form, or names bytes that are not there.
+    /// Its line has another form, or names bytes that do not exist.
     #[error("BadLine")]
     BadLine,
-    /// A word of its line spells no number.
+    /// A word of its line is not a number.
     #[error("BadLine")]
     BadNumber(#[from] ParseIntError),
-    /// A word of its line spells no bytes.
+    /// A word of its line is not hex bytes.
     #[error("BadLine")]
     BadHex(#[from] FromHexError),
     /// The system refused a call on files.
@@ -36,22 +36,22 @@ pub enum CaseFault {
 /// Why a call below the commands is refused.
 #[derive(Clone, Copy, Debug, PartialEq, Eq, Error)]
 pub enum CallFault {
-    /// The bytes are no universal file.
+    /// The bytes are not a universal file.
     #[error("{0:?}")]
     Fat(#[from] FatFault),
-    /// The bytes are no image.
+    /// The bytes are not an image.
     #[error("Image({0:?})")]
     Image(#[from] ImageFault),
     /// The symbols of an image cannot be read.
     #[error("Symbols({0:?})")]
     Symbols(#[from] SymbolFault),
-    /// The bytes are no slice.
+    /// The bytes are not a slice.
     #[error("{0:?}")]
     Slice(#[from] SliceFault),
-    /// The bytes are no text of an archive, of operations or of a summary, or their reader failed.
+    /// The bytes are not the text of an archive, of operations or of a summary, or their reader failed.
     #[error("{:?} at {}", .0.kind, .0.offset)]
     Record(RecordFault),
-    /// The bytes are no file of which a site takes the slices.
+    /// The bytes are not a file whose slices are admitted.
     #[error("{0:?}")]
     Take(TakeFault),
     /// No call has its verb.
@@ -62,7 +62,7 @@ pub enum CallFault {
     OutOfMemory(#[from] NoMemory),
 }
 
-/// How a call below the commands ends.
+/// The result of a call below the commands.
 pub type Ended = Result<(), CallFault>;
 
 impl From<AdmitFault> for CallFault {

@@ -1,15 +1,19 @@
-//! Growths and bytes of memory that are granted.
+//! Growths and bytes of memory that are granted or refused.
 
 use memory::{Heap, NoMemory};
 use std::alloc::Global;
 
-/// Prints what memory with so many growths holds: one vector of numbers, or three that share them.
-pub fn print_room(alloc: Global, growths: u64, printed: &mut String) -> Result<(), NoMemory> {
+/// Prints the capacity of memory with this number of growths: the numbers in one vector, or in three that share them.
+pub fn print_room_of_growths(
+    alloc: Global,
+    growths: u64,
+    printed: &mut String,
+) -> Result<(), NoMemory> {
     print_one(Heap::with_growths(alloc, growths)?, printed)?;
     print_three(Heap::with_growths(alloc, growths)?, printed)
 }
 
-/// Prints what memory with so many bytes holds: one vector of numbers of 8 bytes.
+/// Prints the capacity of memory with this number of bytes: the numbers of 8 bytes in one vector.
 pub fn print_room_of_bytes(
     alloc: Global,
     bytes: u64,
@@ -20,10 +24,11 @@ pub fn print_room_of_bytes(
     print_one(heap, printed)
 }
 
-// How many numbers are tried.
+// The number of pushes that are tried.
 const NUMBERS: u64 = 99;
 
-// Prints how many numbers one vector takes. It has room for 4 once it has grown, and then for twice as many.
+// Prints how many numbers one vector accepts. After its first growth it has room for 4, and after each later one for
+// twice as many.
 fn print_one(heap: Heap, printed: &mut String) -> Result<(), NoMemory> {
     let mut numbers = Vec::new(heap);
     for number in 0..NUMBERS {
@@ -32,8 +37,8 @@ fn print_one(heap: Heap, printed: &mut String) -> Result<(), NoMemory> {
     writeln!(printed, "  one takes {}", numbers.len())
 }
 
-// Prints which of three vectors take a number, the first of which is made smaller and goes back before the third is
-// asked, and what the third and a fourth take once a growth more is granted.
+// Prints which of three vectors accept a number, where the first is shrunk and dropped before the push to the third;
+// and whether the third and a fourth accept one after one more growth is granted.
 fn print_three(heap: Heap, printed: &mut String) -> Result<(), NoMemory> {
     let mut first = Vec::new(heap.share());
     let mut second = Vec::new(heap.share());

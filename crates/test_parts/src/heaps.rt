@@ -39,14 +39,16 @@ impl<A: Archive + Drop> Apart<A> {
     }
 }
 
-/// Prints what grows where each of two archives has its own memory: each is made to want memory while the other is not.
+/// Prints which operations need the memory of which archive, if each of two archives has its own: each runs out of
+/// memory while the other does not.
 pub fn print_heaps<A: Archive + Drop>(texts: Texts, printed: &mut String) -> Ended {
     print_copies(texts, printed)?;
     print_joined::<A>(texts, printed)?;
     print_absorbed::<A>(texts, printed)
 }
 
-// Prints how many operations are copied to a memory, where that of the first ones runs out, and where it itself does.
+// Prints how many operations are copied to a memory, if the memory of the original ones has run out, and if it has run
+// out itself.
 fn print_copies(texts: Texts, printed: &mut String) -> Ended {
     let own = Heap::new(texts.alloc)?;
     let theirs = Heap::new(texts.alloc)?;
@@ -73,7 +75,8 @@ fn count_copies(heap: &Heap, operations: &[Operation]) -> Result<u64, NoMemory> 
     Ok(copied)
 }
 
-// Prints whether an archive joins another where its own memory runs out, and what both have when they grow in theirs.
+// Prints whether an archive joins another if its own memory has run out, and the contents of both when each grows in
+// its own memory.
 fn print_joined<A: Archive + Drop>(texts: Texts, printed: &mut String) -> Ended {
     let mut apart = Apart::<A>::read(texts)?;
     apart.own.grant(0);
@@ -88,7 +91,7 @@ fn print_joined<A: Archive + Drop>(texts: Texts, printed: &mut String) -> Ended 
     print_growing("the other", &mut apart.other, texts, printed)
 }
 
-// Prints a join by value in the same way.
+// Prints the same for a join by value.
 fn print_absorbed<A: Archive + Drop>(texts: Texts, printed: &mut String) -> Ended {
     let mut apart = Apart::<A>::read(texts)?;
     let other = apart.other;
@@ -102,7 +105,7 @@ fn print_absorbed<A: Archive + Drop>(texts: Texts, printed: &mut String) -> Ende
     print_growing("absorbed", &mut apart.archive, texts, printed)
 }
 
-// Prints how many records an archive has, and then with each operation that it can take.
+// Prints the number of records of an archive, and then with each operation that it can add.
 fn print_growing<A: Archive>(
     what: &str,
     archive: &mut A,

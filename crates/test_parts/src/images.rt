@@ -84,7 +84,8 @@ fn print_sections(image: &Image, printed: &mut String) -> Result<(), NoMemory> {
     print_by_number(image, number.saturating_add(1), None, printed)
 }
 
-// Prints where a number stands for another section. It is one byte, and a greater one stands for none.
+// Prints an error if a number refers to another section than this one. A section number is one byte, and a greater one
+// refers to none.
 fn print_by_number(
     image: &Image,
     number: u32,
@@ -107,7 +108,7 @@ fn print_section(number: u32, section: Section, printed: &mut String) -> Result<
     writeln!(printed, "from {from}, {} addresses", section.size)
 }
 
-/// Prints the key and the digest of a slice, which is copied, too.
+/// Prints the key and the digest of a slice, and also tests its copy.
 pub fn print_slice(heap: Heap, bytes: &[u8], printed: &mut String) -> Ended {
     let checked = Slice::check(bytes).map(|slice| slice.key());
     let slice = Slice::admit(heap.share(), bytes)?;
@@ -148,7 +149,7 @@ pub fn print_named(bytes: &[u8], name: &[u8], printed: &mut String) -> Ended {
     Ok(())
 }
 
-// Prints what is found at an address.
+// Prints the symbol found at an address.
 fn print_found(address: u64, found: Option<Found>, printed: &mut String) -> Result<(), NoMemory> {
     let address = Address(address);
     match found {

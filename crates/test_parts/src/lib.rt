@@ -1,20 +1,20 @@
-//! What the cases of `test_acceptance` are made of: the bytes that their words spell, devices that are asked as they
-//! should be, and calls below the commands, with what is printed of each.
+//! The parts of the cases of `test_acceptance`: the bytes of their words, devices that test their callers, and calls
+//! below the commands, with their printed lines.
 //!
-//! - `faults`: why a case is not carried out, or a call is refused;
+//! - `faults`: why a case cannot be carried out, or a call is refused;
 //! - `store`: files in memory;
 //! - `words`: the words of a case;
-//! - `parts`, `counters`, `addresses`: the bytes and the addresses that they spell;
-//! - `limits`: what devices give and take, and how far a sweep goes;
-//! - `devices`: inputs and outputs that are asked as they should be;
-//! - `ends`: how a case ends, and what it leaves;
+//! - `parts`, `counters`, `addresses`: the bytes and the addresses of words;
+//! - `limits`: the limits of devices, and the extent of a sweep;
+//! - `devices`: inputs and outputs that test their callers;
+//! - `ends`: the result of a case, and its outputs;
 //! - `images`, `archives`: calls that read bytes, carried out;
-//! - `questions`: what is asked of an archive;
+//! - `questions`: questions to an archive;
 //! - `selections`: calls that keep a part of an archive;
 //! - `streams`, `growths`: streams of std that fail, and memory that is refused;
 //! - `heaps`: two memories, one for each of two archives;
 //! - `pairs`: random pairs of archives, merged and joined;
-//! - `printing`: what is printed of a case.
+//! - `printing`: the printed lines of a case.
 #![tactic(auto)]
 
 mod addresses;
@@ -44,7 +44,7 @@ pub use archives::{
 pub use devices::{Shelf, StrictSink, StrictSource};
 pub use ends::{End, Left};
 pub use faults::{CallFault, CaseFault, Ended};
-pub use growths::{print_room, print_room_of_bytes};
+pub use growths::{print_room_of_bytes, print_room_of_growths};
 pub use heaps::{Texts, print_heaps};
 pub use images::{print_fat, print_image, print_kind, print_named, print_nearest, print_slice};
 pub use limits::{FileLimit, Limits, Sweep};
@@ -54,5 +54,5 @@ pub use printing::{print_left, print_line_fault, print_report, print_same, print
 pub use questions::{answers_of, print_answers};
 pub use selections::{Picked, print_part};
 pub use store::Store;
-pub use streams::{Failing, print_asked, print_reading, print_writing};
+pub use streams::{Failing, print_reading, print_strict_devices, print_writing};
 pub use words::{first_word, words_of};

@@ -1,8 +1,8 @@
-//! What devices give and take, and how far a sweep goes.
+//! The limits of devices, and the extent of a sweep.
 
 ghost use Rattle.std.specs.Prelude.{◌≡◌, None};
 
-/// A file of which only first bytes count.
+/// A file of which only a number of first bytes are used.
 #[derive(Clone, Copy)]
 pub struct FileLimit<'t> {
     pub name: &'t str,
@@ -10,7 +10,7 @@ pub struct FileLimit<'t> {
 }
 
 impl FileLimit<'_> {
-    // How many first bytes of a file count.
+    // The number of first bytes of a file that are used.
     fn len_of(limit: Option<FileLimit<'_>>, name: &str) -> usize
         ensures { limit.entry ≡ None → result ≡ usize.MAX }
     {
@@ -21,26 +21,26 @@ impl FileLimit<'_> {
     }
 }
 
-/// What the devices of a run give and take.
+/// The limits of the devices of a run.
 #[derive(Clone, Copy)]
 pub struct Limits<'t> {
-    /// How many bytes an input gives at a time, at least one.
+    /// The number of bytes that an input returns at a time, at least one.
     pub pieces: usize,
-    /// How many growths of memory are granted.
+    /// The number of growths of memory that are granted.
     pub growths: u64,
-    /// How many bytes of memory are granted to a command, or to a call that reads.
+    /// The number of bytes of memory that are granted to a command, or to a call that reads.
     pub bytes: u64,
-    /// How many inputs, the first ones of the command line, there is memory to open.
+    /// The number of inputs, in the order of the command line, that there is memory to open.
     pub opened: u64,
-    /// How many bytes OUT takes before it fails.
+    /// The number of bytes that OUT accepts before it fails.
     pub out: usize,
     /// Whether OUT can be published.
     pub places: bool,
-    /// How many bytes the report takes before it fails.
+    /// The number of bytes that the report accepts before it fails.
     pub report: usize,
-    /// A file that ends early.
+    /// A file that ends after a number of bytes.
     pub cut: Option<FileLimit<'t>>,
-    /// A file that fails when it gave so many bytes.
+    /// A file that fails after it returned a number of bytes.
     pub read: Option<FileLimit<'t>>,
 }
 
@@ -57,20 +57,20 @@ impl Limits<'_> {
         read: None,
     };
 
-    /// How many bytes a file has at most.
+    /// The greatest number of bytes that a file has.
     pub fn most_of(&self, name: &str) -> usize
         ensures { self.now.cut ≡ None → result ≡ usize.MAX }
     {
         FileLimit::len_of(self.cut, name)
     }
 
-    /// How many bytes a file gives before it fails.
+    /// The number of bytes that a file returns before it fails.
     pub fn given_of(&self, name: &str) -> usize {
         FileLimit::len_of(self.read, name)
     }
 }
 
-/// Which device of a run is tried at each place.
+/// The device of a run that is limited at each point in turn.
 #[derive(Clone, Copy)]
 pub enum Sweep<'t> {
     /// A file is cut to each length.
@@ -81,12 +81,12 @@ pub enum Sweep<'t> {
     Out,
     /// The report fails after each number of bytes.
     Report,
-    /// The inputs come in pieces of each size up to this one.
+    /// The inputs return pieces of each size up to this one.
     Pieces(usize),
 }
 
 impl<'t> Sweep<'t> {
-    /// The limits at a place of the sweep.
+    /// The limits at a point of the sweep.
     pub fn limits(self, mut limits: Limits<'t>, len: usize) -> Limits<'t> {
         match self {
             Sweep::Cut(name) => limits.cut = Some(FileLimit { name, len }),

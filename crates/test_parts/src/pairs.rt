@@ -1,4 +1,4 @@
-//! Random pairs of archives, merged as they come and joined as values.
+//! Random pairs of archives, merged as they are read and joined as values.
 
 use crate::archives::{read, text_of};
 use crate::faults::{CallFault, Ended};
@@ -9,12 +9,12 @@ use byte_device::{Bytes, Grown};
 use memory::Heap;
 use std::alloc::Global;
 
-// Numbers that follow from a seed: the linear congruential generator of Knuth's MMIX.
+// Pseudorandom numbers from a seed: the linear congruential generator of Knuth's MMIX.
 #[derive(Drop)]
 struct Dice(u64);
 
 impl Dice {
-    // A number below that of the sides.
+    // A number below the number of sides.
     fn below(&mut self, sides: u8) -> u8 {
         self.0 = self
             .0
@@ -25,10 +25,10 @@ impl Dice {
     }
 }
 
-// Whether an operation of the pair of this number comes to the left archive, and to the right one.
+// Whether an operation is added to the left archive, and to the right one, of the pair with this number.
 fn sides(number: u64, operation: &Operation, dice: &mut Dice) -> (bool, bool) {
     match number % 5 {
-        // A third of them comes to both.
+        // A third of them is added to both.
         0 => match dice.below(3) {
             0 => (true, false),
             1 => (false, true),
@@ -36,7 +36,7 @@ fn sides(number: u64, operation: &Operation, dice: &mut Dice) -> (bool, bool) {
         },
         1 => (true, false),
         2 => (true, true),
-        // The retirements come to the left one, which so ends where the right one begins.
+        // The retirements are added to the left one, whose records so all precede those of the right one.
         3 => {
             let is_retirement = matches!(operation, Operation::Retire(_, _));
             (is_retirement, !is_retirement)
@@ -45,8 +45,8 @@ fn sides(number: u64, operation: &Operation, dice: &mut Dice) -> (bool, bool) {
     }
 }
 
-/// Merges random pairs of archives, whose slices are made from an image, and tells where a join of the two as values is
-/// another archive, and the digest of all.
+/// Merges random pairs of archives, whose slices are made from an image. Prints where the join of the two as values is
+/// a different archive, and the digest of all texts.
 pub fn print_pairs<A: Archive + Drop>(
     image: &[u8],
     pairs: u64,
@@ -73,7 +73,7 @@ pub fn print_pairs<A: Archive + Drop>(
     Ok(print_text(&all, printed)?)
 }
 
-// The texts of the pair of this number.
+// The texts of the pair with this number.
 fn random_pair<A: Archive + Drop>(
     alloc: Global,
     heap: &Heap,
@@ -96,7 +96,7 @@ fn random_pair<A: Archive + Drop>(
     Ok((text_of(alloc, &left)?, text_of(alloc, &right)?))
 }
 
-// The admission or the retirement of an image with another last byte, and up to two bytes more.
+// The admission or the retirement of an image with a changed last byte, and up to two more bytes.
 fn random_operation(
     alloc: Global,
     heap: &Heap,

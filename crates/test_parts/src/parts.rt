@@ -1,23 +1,23 @@
-//! The bytes that words of a case spell.
+//! The bytes of the words of a case.
 //!
 //! - `0xHEX`: these bytes;
 //! - `'TEXT'`: the bytes of a text without spaces;
 //! - `NAME`: a file;
-//! - `NAME[A..B]`: a file from A to before B, each of which may be left out;
-//! - `NAME@AT=VALUE@AT=VALUE`: a file with other bytes at these places; a VALUE is HEX, or a counter;
-//! - `N*HEX`: the bytes so many times;
-//! - `N*NAME@AT=VALUE..`: such a file so many times, in which each counter goes on with each time.
+//! - `NAME[A..B]`: a file from A, included, to B, excluded; each may be omitted;
+//! - `NAME@AT=VALUE@AT=VALUE`: a file with other bytes at these offsets; a VALUE is HEX, or a counter;
+//! - `N*HEX`: the bytes N times;
+//! - `N*NAME@AT=VALUE..`: such a file N times, in which each counter advances each time.
 //!
 //! A counter is `FROM+STEP:FORM` or `FROM-STEP:FORM`, in decimal: the number FROM the first time, and STEP more, or
-//! less, each time after. Its FORM is `beN` or `leN`: a number of N bytes, the first byte its highest or its lowest; or
-//! `decN`: N decimal digits. So `5000*R@53=4999-1:be4` are 5,000 copies of R in which four bytes fall from 4,999 to 0.
+//! less, each later time. Its FORM is `beN` or `leN`: a number of N bytes, big-endian or little-endian; or `decN`: N
+//! decimal digits. So `5000*R@53=4999-1:be4` are 5,000 copies of R in which four bytes fall from 4,999 to 0.
 
 use crate::counters::{counted, spelled};
 use crate::faults::CaseFault;
 use crate::store::Store;
 use std::alloc::Global;
 
-/// The bytes of the parts, one after the other.
+/// The bytes of the parts, in order.
 pub fn bytes_of(alloc: Global, store: &Store, parts: &str) -> Result<Vec<u8>, CaseFault> {
     let mut bytes = Vec::new(alloc);
     for part in parts.split(' ') {
@@ -26,7 +26,7 @@ pub fn bytes_of(alloc: Global, store: &Store, parts: &str) -> Result<Vec<u8>, Ca
     Ok(bytes)
 }
 
-/// The number that decimal digits spell.
+/// The value of decimal digits.
 pub fn number(digits: &str) -> Result<u64, CaseFault> {
     Ok(digits.parse::<u64>()?)
 }
@@ -49,7 +49,7 @@ fn bytes_of_part(alloc: Global, store: &Store, part: &str) -> Result<Vec<u8>, Ca
     }
 }
 
-// A file with changes, or else the bytes that digits spell, so many times.
+// A file with changes, or else the bytes of hex digits, repeated this number of times.
 fn repeated(alloc: Global, store: &Store, times: u64, part: &str) -> Result<Vec<u8>, CaseFault> {
     let mut bytes = Vec::new(alloc);
     for time in 0..times {
@@ -62,7 +62,7 @@ fn repeated(alloc: Global, store: &Store, times: u64, part: &str) -> Result<Vec<
     Ok(bytes)
 }
 
-// The bytes of a range, of which the text ends with `]`.
+// The bytes of a range, whose text ends with `]`.
 fn cut<'a>(bytes: &'a [u8], range: &str) -> Result<&'a [u8], CaseFault> {
     let range = range.strip_suffix(']').ok_or(CaseFault::BadLine)?;
     let (from, to) = range.split_once("..").ok_or(CaseFault::BadLine)?;
@@ -77,7 +77,7 @@ fn cut<'a>(bytes: &'a [u8], range: &str) -> Result<&'a [u8], CaseFault> {
     bytes.get(from..to).ok_or(CaseFault::BadLine)
 }
 
-// The bytes with others at these offsets, where the counters went on so many times.
+// The bytes with others at these offsets, where the counters have advanced this number of times.
 fn changed(alloc: Global, bytes: &[u8], changes: &str, time: u64) -> Result<Vec<u8>, CaseFault> {
     let mut changed = bytes.to_vec(alloc)?;
     for change in changes.split('@') {
@@ -93,7 +93,7 @@ fn make_change(alloc: Global, bytes: &mut [u8], change: &str, time: u64) -> Resu
     put(bytes, offset, &value_of(alloc, value, time)?)
 }
 
-// Puts bytes over others, from an offset on.
+// Replaces bytes from an offset on.
 fn put(bytes: &mut [u8], offset: usize, new: &[u8]) -> Result<(), CaseFault> {
     if offset > bytes.len() || new.len() > bytes.len() - offset {
         return Err(CaseFault::BadLine);
@@ -102,7 +102,7 @@ fn put(bytes: &mut [u8], offset: usize, new: &[u8]) -> Result<(), CaseFault> {
     Ok(())
 }
 
-// The bytes of a value: of a counter that went on so many times, or those that digits spell.
+// The bytes of a value: of a counter that has advanced this number of times, or of hex digits.
 fn value_of(alloc: Global, value: &str, time: u64) -> Result<Vec<u8>, CaseFault> {
     match value.split_once(':') {
         Some((counter, form)) => spelled(alloc, counted(counter, time)?, form),

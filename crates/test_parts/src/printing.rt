@@ -1,4 +1,4 @@
-//! What is printed of a case.
+//! The printed lines of a case.
 
 use crate::ends::{End, Left};
 use archive_core::Digest;
@@ -8,10 +8,10 @@ use memory::NoMemory;
 use sha2::{Digest as _, Sha256};
 use text_values::Spelled;
 
-// How many lines of a report are told at most, before their digest stands for them.
+// The greatest number of lines of a report that are printed; of a longer report the digest is printed.
 const MOST_LINES: usize = 40;
 
-/// Prints what a case left, and how it ended. A call that gave no line says that.
+/// Prints the outputs of a case, and its result. For a call without lines it prints that.
 pub fn print_left(left: &Left, printed: &mut String) -> Result<(), NoMemory> {
     if left.end == End::Given && left.report.is_empty() {
         return writeln!(printed, "  nothing");
@@ -30,7 +30,7 @@ pub fn print_text(bytes: &[u8], printed: &mut String) -> Result<(), NoMemory> {
     writeln!(printed, "{} bytes {digest}", bytes.len())
 }
 
-// Prints how a case ended. A call that gave something says no more.
+// Prints the result of a case. For a call with lines it prints nothing more.
 fn print_end(end: End, printed: &mut String) -> Result<(), NoMemory> {
     match end {
         End::Given => Ok(()),
@@ -44,7 +44,7 @@ fn print_end(end: End, printed: &mut String) -> Result<(), NoMemory> {
     }
 }
 
-/// Prints a report, which is a text of ASCII, wherever it is cut.
+/// Prints a report, which is an ASCII text, wherever it is cut.
 pub fn print_report(report: &[u8], printed: &mut String) -> Result<(), NoMemory> {
     match str::from_utf8(report) {
         Ok(text) => print_lines(text, printed),
@@ -52,7 +52,7 @@ pub fn print_report(report: &[u8], printed: &mut String) -> Result<(), NoMemory>
     }
 }
 
-// Prints the lines of a text, and whether the last of them is cut.
+// Prints the lines of a text, and whether the last one is cut.
 fn print_lines(text: &str, printed: &mut String) -> Result<(), NoMemory> {
     let lines = text.lines().count();
     if lines > MOST_LINES {
@@ -68,7 +68,7 @@ fn print_lines(text: &str, printed: &mut String) -> Result<(), NoMemory> {
     Ok(())
 }
 
-/// Prints why the words of a line give no plan.
+/// Prints why the words of a line have no plan.
 pub fn print_line_fault(fault: &LineFault, printed: &mut String) -> Result<(), NoMemory> {
     let (text, status) = match fault {
         LineFault::Help(text) => (text.as_str(), 0),
@@ -79,7 +79,7 @@ pub fn print_line_fault(fault: &LineFault, printed: &mut String) -> Result<(), N
     writeln!(printed, "  status {status}")
 }
 
-/// Prints whether two files are the same, and else where they differ first.
+/// Prints whether two files are the same, and otherwise the first difference.
 pub fn print_same(left: &[u8], right: &[u8], printed: &mut String) -> Result<(), NoMemory> {
     if left == right {
         return writeln!(printed, "  yes, {} bytes", left.len());

@@ -1,7 +1,7 @@
-//! What is asked of an archive.
+//! Questions to an archive.
 //!
-//! A word `0xHEX` asks each key of its records for an address, `find` each UUID for its rows, and any other word is a
-//! name.
+//! A word `0xHEX` is an address, looked up under each key of its records; `find` searches each UUID for its rows; and
+//! any other word is a name.
 
 use crate::addresses::address;
 use crate::faults::{CallFault, Ended};
@@ -10,7 +10,7 @@ use memory::{Heap, NoMemory};
 use std::alloc::Global;
 use text_reports::{Text, find_lines, push_answer};
 
-/// Asks an archive, and tells its answers.
+/// Asks an archive, and prints its answers.
 pub fn print_answers<A: Archive>(
     heap: &Heap,
     archive: &A,
@@ -59,7 +59,7 @@ fn print_finds<A: Archive>(heap: &Heap, archive: &A, printed: &mut String) -> Re
     Ok(())
 }
 
-/// The answers of an archive. Prints where a lookup fails since memory runs out, and no slices are in conflict.
+/// The answers of an archive. Prints an error if a lookup fails for lack of memory although no slices are in conflict.
 pub fn answers_of<A: Archive>(
     heap: &Heap,
     archive: &A,

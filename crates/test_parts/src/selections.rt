@@ -13,17 +13,17 @@ use memory::{Heap, NoMemory};
 use text_values::Word;
 use uuid::Uuid;
 
-/// Which records of an archive are kept.
+/// The records of an archive that are kept.
 #[derive(Clone, Copy)]
 pub enum Picked {
-    /// Those of a UUID.
+    /// Those under a UUID.
     OfUuid(Uuid),
-    /// Those of a UUID and an architecture.
+    /// Those under a UUID and an architecture.
     OfKey(SliceKey),
 }
 
 impl Picked {
-    /// What words pick, and the questions after that: `UUID QUESTION..` or `UUID ARCH QUESTION..`.
+    /// The selection of words, and the questions after it: `UUID QUESTION..` or `UUID ARCH QUESTION..`.
     pub fn of_words(words: &str) -> Result<(Picked, &str), CaseFault> {
         let (word, rest) = first_word(words);
         let uuid = Uuid::read(word).ok_or(CaseFault::BadLine)?;
@@ -35,8 +35,8 @@ impl Picked {
     }
 }
 
-/// Reads an archive's text, keeps the records that are picked, and tells each, what text they are, and their answers.
-/// The growths and the bytes that memory has are those of the reading.
+/// Reads an archive's text, and keeps the selected records. Prints each of them, the length and digest of their text,
+/// and their answers. The growths and the bytes of memory are those of the reading.
 pub fn print_part<A: Archive + Drop>(
     heap: Heap,
     picked: Picked,
@@ -53,7 +53,7 @@ pub fn print_part<A: Archive + Drop>(
     print_answers(&heap, &part, questions, printed)
 }
 
-// Reads an archive, and keeps the records that are picked.
+// Reads an archive, and keeps the selected records.
 fn read_picked<A: Archive + Drop>(
     heap: Heap,
     picked: Picked,
@@ -65,7 +65,7 @@ fn read_picked<A: Archive + Drop>(
     }
 }
 
-// Prints each record of an archive, and how many there are.
+// Prints each record of an archive, and their number.
 fn print_records<A: Archive>(archive: &A, printed: &mut String) -> Result<(), NoMemory> {
     for index in 0..archive.len() {
         print_record(&archive.record_at(index), printed)?;

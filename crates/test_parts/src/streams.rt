@@ -9,7 +9,7 @@ use byte_device::{Failed, Reading, Sink, Source, Writing};
 use memory::{Heap, NoMemory};
 use std::io::{self, Error, ErrorKind, Read, Write};
 
-/// How the second call of a stream ends, if otherwise than the others.
+/// The result of the second call of a stream, if it differs from the others.
 #[derive(Clone, Copy)]
 pub enum Failing {
     Never,
@@ -19,7 +19,7 @@ pub enum Failing {
 }
 
 impl Failing {
-    /// What a word of a case says.
+    /// The failure that a word of a case names.
     pub fn of_word(word: &str) -> Option<Failing> {
         match word {
             "never" => Some(Failing::Never),
@@ -76,10 +76,10 @@ impl<W: Write> Write for FailsOnce<W> {
     }
 }
 
-// How often a stream is asked.
+// The number of calls to a stream.
 const CALLS: usize = 4;
 
-/// Prints what four pulls of so many bytes come to, from a reader of std over a file.
+/// Prints the results of four pulls of `size` bytes from a reader of std over a file.
 pub fn print_reading(file: &[u8], failing: Failing, size: usize, printed: &mut String) -> Ended {
     let mut reader = FailsOnce {
         stream: file,
@@ -95,7 +95,7 @@ pub fn print_reading(file: &[u8], failing: Failing, size: usize, printed: &mut S
     Ok(writeln!(printed, "{} calls", reader.calls)?)
 }
 
-/// Prints what the pushes of a file in pieces of so many bytes come to, to a writer of std, and what that has then.
+/// Prints the results of pushing a file in pieces of `size` bytes to a writer of std, and the bytes in it afterwards.
 pub fn print_writing(file: &[u8], failing: Failing, size: usize, printed: &mut String) -> Ended {
     let mut writer = FailsOnce {
         stream: Vec::new(*printed.allocator()),
@@ -110,8 +110,9 @@ pub fn print_writing(file: &[u8], failing: Failing, size: usize, printed: &mut S
     Ok(print_text(&writer.stream, printed)?)
 }
 
-/// Prints what the devices of cases come to that are asked for a file, again, and for no byte, and that are given none.
-pub fn print_asked(file: &[u8], printed: &mut String) -> Ended {
+/// Prints the results of the strict devices: of pulls from a file, also after its end and for no bytes, and of pushes,
+/// also of no bytes.
+pub fn print_strict_devices(file: &[u8], printed: &mut String) -> Ended {
     let mut piece = [0u8; 8];
     let mut source = StrictSource::new(file, usize::MAX, usize::MAX);
     for _ in 0..CALLS {

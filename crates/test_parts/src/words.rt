@@ -1,6 +1,6 @@
 //! The words of a case.
 //!
-//! A line is cut at each space. What stands between two `"` is one word, with its spaces; in a line that has such words
+//! A line is cut at each space. The text between two `"` is one word, with its spaces; in a line that has such words,
 //! an empty word is `""`.
 
 use memory::NoMemory;
@@ -33,7 +33,7 @@ pub fn words_of(alloc: Global, line: &str) -> Result<Vec<&str>, NoMemory> {
     Ok(words)
 }
 
-// Adds the words of a line without `"`, those that are not empty alone if it is a piece of a line that has some.
+// Adds the words of a line without `"`; if it is a piece of a line that has some, empty words are left out.
 fn push_cut<'t>(words: &mut Vec<&'t str>, line: &'t str, is_piece: bool) -> Result<(), NoMemory> {
     for word in line.split(' ') {
         if !is_piece || !word.is_empty() {

@@ -1,4 +1,4 @@
--- The events that the lines of a script ask for.
+-- The events in the lines of a script.
 use Rattle.std.specs.Prelude.{ℕ, ◌&&◌, nat_le, nat_lt, if◌then◌else◌, List, [], ◌∷◌, codes, length}
 use Rattle.std.specs.Prelude.{Option, Some, None}
 use Rattle.std.specs.Result.{result_ok}
@@ -14,7 +14,7 @@ use Rattle.text_values.specs.Words.{arch_of, digest_of}
 use Rattle.text_values.specs.Lines.{Field, Line, fields}
 use Rattle.text_inputs.specs.Numbers.{number_of}
 
--- ---- what an event asks for
+-- ---- the event of a line
 
 -- an event, its file as bytes
 pub data Act : Type 0 where
@@ -37,7 +37,7 @@ act_of (event.Deliver site message) = Deliver site message
 act_of (event.Save site) = Save site
 act_of (event.Stop site) = Stop site
 
--- ---- what the fields of a line ask for, by their number
+-- ---- the event by the fields of a line and their number
 
 -- a file: one or more pairs of hex digits, in either case
 abbrev pub file_of : Field → Option (List ℕ)
@@ -70,7 +70,7 @@ abbrev pub retire_act : ℕ → Option (List ℕ) → Option ArchKey → Option 
 retire_act site (Some uuid) (Some arch) (Some digest) = Some (Retire site (record { uuid = uuid; arch = arch }) digest)
 retire_act site _ _ _ = None
 
--- a word and a site, and what stands after them
+-- the event with this name, site and fields after them
 abbrev pub act_at : Field → ℕ → List Field → Option Act
 act_at word site [] = plain_act word site
 act_at word site (field ∷ []) =
@@ -93,7 +93,7 @@ abbrev pub fields_act : List Field → Option Act
 fields_act (word ∷ behind) = word_act word behind
 fields_act [] = None
 
--- the event that a line means, if it means one
+-- the event of a line, if it has one
 abbrev pub line_act : Line → Option Act
 line_act line = fields_act (fields line)
 
@@ -109,6 +109,6 @@ abbrev pub fields_sites : List Field → Option ℕ
 fields_sites (word ∷ number ∷ []) = if bytes_eq word (codes "sites") then within_sites (number_of number) else None
 fields_sites _ = None
 
--- how many sites a line asks for, if it does
+-- the number of sites in a line, if it has one
 abbrev pub line_sites : Line → Option ℕ
 line_sites line = fields_sites (fields line)

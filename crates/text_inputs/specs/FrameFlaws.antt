@@ -1,4 +1,4 @@
--- The flaw of a line that has no frame.
+-- The flaw of a line without a frame.
 use Rattle.std.specs.Prelude.{ℕ, List, [], ◌∷◌, Option, Some, None}
 use Rattle.uuid.specs.Text.{parsed}
 use Rattle.archive_core.specs.declared.keys.ArchKey.{ArchKey}
@@ -10,19 +10,19 @@ use Rattle.text_inputs.specs.Frames.{load_of}
 use Rattle.text_inputs.specs.declared.frame_flaws.FrameFlaw.{FrameFlaw}
 use Rattle.text_inputs.specs.declared.frame_flaws.FrameFlaw.TheVariants as flaw
 
--- which of the fields UUID, ARCH and LOAD gives no value; where each of them gives one it is ADDRESS
+-- the first of the fields UUID, ARCH and LOAD that is not valid; if all three are valid it is ADDRESS
 abbrev pub field_flaw : Option (List ℕ) → Option ArchKey → Option (Option ℕ) → FrameFlaw
 field_flaw None _ _ = flaw.Uuid
 field_flaw (Some _) None _ = flaw.Arch
 field_flaw (Some _) (Some _) None = flaw.Load
 field_flaw (Some _) (Some _) (Some _) = flaw.Address
 
--- of other fields than four their number is wrong
+-- if there are not four fields, their number is wrong
 abbrev pub fields_flaw : List Field → FrameFlaw
 fields_flaw (uuid ∷ arch ∷ load ∷ address ∷ []) = field_flaw (parsed uuid) (arch_of arch) (load_of load)
 fields_flaw _ = flaw.FieldCount
 
--- what is wrong with a line as such, or else with its fields
+-- the flaw of a whole line, or else that of its fields
 abbrev pub flaw_or : Option LineFlaw → FrameFlaw → FrameFlaw
 flaw_or (Some of_line) _ = flaw.Line of_line
 flaw_or None of_fields = of_fields

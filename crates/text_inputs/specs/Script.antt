@@ -1,4 +1,4 @@
--- The bytes that are a script, and the faults of the others.
+-- The bytes that are a script, and the faults of other bytes.
 use Rattle.std.specs.Prelude.{◌≡◌, ◌+◌, ℕ, ◌≤◌, ◌⊎◌, List, [], ◌∷◌, ◌++◌, length, nat_lt, if◌then◌else◌, map, ⊤}
 use Rattle.std.specs.Prelude.{Option, Some, None, IsSome, Result, Ok, Err}
 use Rattle.text_inputs.specs.declared.event.Event.{Event}
@@ -9,47 +9,48 @@ use Rattle.text_inputs.specs.declared.script.ScriptError.TheVariants.{Faulty, Ou
 use Rattle.text_inputs.specs.declared.script.ScriptFault.{ScriptFault}
 use Rattle.text_inputs.specs.declared.script.ScriptFault.TheVariants.{NoSites, BadEvent, TooManyEvents}
 
--- the most events of a script
+-- the largest number of events in a script
 abbrev pub most_events : ℕ
 most_events = 10000
 
--- what is wrong with a line, and its number, counted from 1
+-- the fault of a line, and its number, counted from 1
 abbrev pub Wrong : Type 0
 Wrong = ScriptFault × ℕ
 
--- what is wrong with the line after so many others
+-- the fault of the line after this number of lines
 abbrev pub wrong : {T : Type 0} → ScriptFault → ℕ → Result T Wrong
 wrong fault before = Err (fault, before + 1)
 
--- an event, and those after it
+-- an event, and the events after it
 abbrev pub onto : Act → Result (List Act) Wrong → Result (List Act) Wrong
 onto act (Ok acts) = Ok (act ∷ acts)
 onto act (Err e) = Err e
 
--- a line after so many others and so many events, and what the lines after it say
+-- a line after these numbers of lines and of events, and the result of the lines after it
 abbrev pub event_then : ℕ → ℕ → Option Act → Result (List Act) Wrong → Result (List Act) Wrong
 event_then before events None behind = wrong BadEvent before
 event_then before events (Some act) behind =
     if nat_lt events most_events then onto act behind else wrong TooManyEvents before
 
--- the events of lines that count, after so many events: each line is one, or the first that is none is wrong
+-- the events of the lines that count, after this number of events: each line is one, or the fault of the first that is
+-- none
 abbrev pub events_of : ℕ → List (ℕ × Line) → Result (List Act) Wrong
 events_of events [] = Ok []
 events_of events (line ∷ behind) = event_then line.0 events (line_act line.1) (events_of (events + 1) behind)
 
--- a script: so many sites, and these events
+-- a script: this number of sites, and these events
 abbrev pub sites_then : ℕ → Option ℕ → Result (List Act) Wrong → Result (ℕ × List Act) Wrong
 sites_then before None behind = wrong NoSites before
 sites_then before (Some sites) (Ok acts) = Ok (sites, acts)
 sites_then before (Some sites) (Err e) = Err e
 
--- the first line that counts says how many sites there are, and each further one is an event. Where none counts the
--- line after all lines is wrong
+-- the first line that counts has the number of sites, and each further one is an event. If none counts, the fault is at
+-- the line after all lines
 abbrev pub script_in : ℕ → List (ℕ × Line) → Result (ℕ × List Act) Wrong
 script_in lines [] = wrong NoSites lines
 script_in lines (first ∷ further) = sites_then first.0 (line_sites first.1) (events_of 0 further)
 
--- what the bytes say: a script, or what is wrong with the first faulty line
+-- the script in the bytes, or the fault of the first faulty line
 abbrev pub script_of : List ℕ → Result (ℕ × List Act) Wrong
 script_of bytes = script_in (line_count bytes) (counting bytes)
 
@@ -57,18 +58,19 @@ script_of bytes = script_in (line_count bytes) (counting bytes)
 abbrev pub acts : List Event → List Act
 acts events = map act_of events
 
--- the error tells what is wrong, want of memory aside
+-- the error has this fault and line, or is `OutOfMemory`
 abbrev pub IsErrorOf : {T : Type 0} → Result T Wrong → ScriptError → Type 0
 IsErrorOf read (Faulty fault line) = read ≡ Err (fault, line)
 IsErrorOf read OutOfMemory = ⊤
 
 -- ---- scripts and their faults, by lines
 
--- these lines are these events, one a line
+-- these lines are these events, one per line
 abbrev pub AreEvents : List (ℕ × Line) → List Act → Type 0
 AreEvents lines events = map (λ l. line_act l.1) lines ≡ map Some events
 
--- the first line that counts says how many sites, each further one is the next of these events, and they are few enough
+-- the first line that counts has the number of sites, each further one is the next of these events, and there are not
+-- too many
 pub record IsScript (bytes : List ℕ) (sites : ℕ) (events : List Act) : Type 0 where
   pub first : ℕ × Line
   pub further : List (ℕ × Line)
@@ -77,16 +79,16 @@ pub record IsScript (bytes : List ℕ) (sites : ℕ) (events : List Act) : Type 
   pub meant : AreEvents further events
   pub few : length events ≤ most_events
 
--- no line counts, and this is the number of lines plus one; or the first line that counts says no sites, and this is
--- its number, counted from 1
+-- no line counts, and this is the number of lines plus one; or the first line that counts has no number of sites, and
+-- this is its number, counted from 1
 abbrev pub SaysNoSites : List ℕ → ℕ → Type 0
 SaysNoSites bytes number =
     ((counting bytes ≡ []) × (number ≡ line_count bytes + 1))
     ⊎ ((first : ℕ × Line) × (further : List (ℕ × Line)) × (counting bytes ≡ first ∷ further)
     × (line_sites first.1 ≡ None) × (number ≡ first.0 + 1))
 
--- a line that counts and has this number, counted from 1: the first one says how many sites, and those between are
--- events, few enough
+-- a line that counts and has this number, counted from 1: the first such line has the number of sites, and those
+-- between are events, not too many
 pub record IsReached (bytes : List ℕ) (number : ℕ) : Type 0 where
   pub first : ℕ × Line
   pub between : List (ℕ × Line)
@@ -100,8 +102,8 @@ pub record IsReached (bytes : List ℕ) (number : ℕ) : Type 0 where
   pub few : length events ≤ most_events
   pub number_is : number ≡ line.0 + 1
 
--- this is wrong with the first faulty line, which has this number: it says no sites; or it is reached and no event; or
--- it is reached after as many events as there may be, and is one more
+-- the fault and the number of the first faulty line: it has no number of sites; or it is reached and is no event; or it
+-- is reached after the largest number of events, and is one more
 abbrev pub IsFirstFault : List ℕ → ScriptFault → ℕ → Type 0
 IsFirstFault bytes NoSites number = SaysNoSites bytes number
 IsFirstFault bytes BadEvent number = (at : IsReached bytes number) × (line_act at.line.1 ≡ None)

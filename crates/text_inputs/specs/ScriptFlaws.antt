@@ -16,7 +16,7 @@ use Rattle.text_inputs.specs.declared.numbers.NumberFlaw.TheVariants.{TooLarge}
 use Rattle.text_inputs.specs.declared.script.ScriptFault.{ScriptFault}
 use Rattle.text_inputs.specs.declared.script.ScriptFault.TheVariants.{NoSites, BadEvent, TooManyEvents}
 
--- whether a word is one of those before a site alone, or before a site and one more field
+-- whether this is the name of an event with a site alone, or with a site and one more field
 abbrev pub is_plain : Field → Bool
 is_plain word = bytes_eq word (codes "full") || (bytes_eq word (codes "ask")
     || (bytes_eq word (codes "save") || bytes_eq word (codes "stop")))
@@ -24,7 +24,7 @@ is_plain word = bytes_eq word (codes "full") || (bytes_eq word (codes "ask")
 abbrev pub is_about_message : Field → Bool
 is_about_message word = bytes_eq word (codes "reply") || bytes_eq word (codes "deliver")
 
--- how many fields stand after the word of an event
+-- the number of fields after the name of an event
 abbrev pub count_after : Field → Option ℕ
 count_after word =
     if is_plain word then Some 1
@@ -32,23 +32,23 @@ count_after word =
     else if bytes_eq word (codes "retire") then Some 4
     else None
 
--- which of the fields UUID and ARCH gives no value; where both give one it is DIGEST
+-- the first of the fields UUID and ARCH that is not valid; if both are valid it is DIGEST
 abbrev pub key_flaw : Option (List ℕ) → Option ArchKey → ScriptFlaw
 key_flaw None _ = flaw.Uuid
 key_flaw (Some _) None = flaw.Arch
 key_flaw (Some _) (Some _) = flaw.Digest
 
--- what is wrong with the one field after a word and a site
+-- the flaw of the one field after an event's name and site
 abbrev pub one_flaw : Field → Field → ScriptFlaw
 one_flaw word field = if bytes_eq word (codes "take") then flaw.Bytes else flaw.Message (number_flaw field)
 
--- what is wrong with the fields after a word and a site, of which there is one, or there are those of a slice
+-- the flaw of the fields after an event's name and site: of the only one, or of those of a slice
 abbrev pub flaw_after_site : Field → List Field → ScriptFlaw
 flaw_after_site word [] = flaw.FieldCount
 flaw_after_site word (field ∷ []) = one_flaw word field
 flaw_after_site word (uuid ∷ arch ∷ _) = key_flaw (parsed uuid) (arch_of arch)
 
--- what is wrong with a field for a site, or else with those after it
+-- the flaw of a site's field, or else that of the fields after it
 abbrev pub site_or : Option ℕ → NumberFlaw → ScriptFlaw → ScriptFlaw
 site_or None of_site _ = flaw.Site of_site
 site_or (Some _) _ behind = behind
@@ -57,33 +57,33 @@ abbrev pub site_flaw : Field → List Field → ScriptFlaw
 site_flaw word [] = flaw.FieldCount
 site_flaw word (site ∷ behind) = site_or (number_of site) (number_flaw site) (flaw_after_site word behind)
 
--- what is wrong with the fields after a word that so many should stand after
+-- the flaw of the fields after an event's name, for which this number of fields is required
 abbrev pub counted_flaw : Field → Option ℕ → List Field → ScriptFlaw
 counted_flaw word None behind = flaw.Word
 counted_flaw word (Some count) behind = if length behind == count then site_flaw word behind else flaw.FieldCount
 
--- what is wrong with fields that are no event
+-- the flaw of fields that are no event
 abbrev pub event_flaw : List Field → ScriptFlaw
 event_flaw [] = flaw.Word
 event_flaw (word ∷ behind) = counted_flaw word (count_after word) behind
 
--- what is wrong with N of `sites N`: it is no number, or above 64, or else 0
+-- the flaw of N in `sites N`: it is no number, or above 64, or else 0
 abbrev pub count_flaw : Option ℕ → NumberFlaw → ScriptFlaw
 count_flaw None of_number = flaw.SiteCount of_number
 count_flaw (Some n) _ = if nat_lt 64 n then flaw.SiteCount TooLarge else flaw.Sites
 
--- what is wrong with fields that are no `sites N`
+-- the flaw of fields that are no `sites N`
 abbrev pub sites_flaw : List Field → ScriptFlaw
 sites_flaw (word ∷ number ∷ []) =
     if bytes_eq word (codes "sites") then count_flaw (number_of number) (number_flaw number) else flaw.Sites
 sites_flaw _ = flaw.Sites
 
--- what is wrong with a line as such, or else with its fields
+-- the flaw of a whole line, or else that of its fields
 abbrev pub flaw_or : Option LineFlaw → ScriptFlaw → ScriptFlaw
 flaw_or (Some of_line) _ = flaw.Line of_line
 flaw_or None of_fields = of_fields
 
--- what is wrong with a line that has this fault: a line too many is an event, and an empty line does not count
+-- the flaw of a line with this fault: a line too many is an event, and an empty line does not count
 abbrev pub script_flaw : ScriptFault → Line → Option ScriptFlaw
 script_flaw fault [] = None
 script_flaw NoSites (first ∷ rest) =

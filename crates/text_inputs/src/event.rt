@@ -1,17 +1,17 @@
-//! What happens at the sites of a rehearsal.
+//! The events at the sites of a rehearsal.
 
 use archive_core::{Digest, SliceKey};
 use memory::Heap;
 
-/// What happens at a site. Sites and messages are counted from 0, a message by its number among those that were sent.
+/// An event at a site. Sites and messages are counted from 0; a message has its number among those that were sent.
 #[derive(Debug, Drop)]
 pub enum Event {
-    /// The site takes the slices of a file, all or none.
+    /// The site adds the slices of a file, all or none.
     Take {
         site: u32,
         file: Vec<u8, Heap>,
     },
-    /// The site takes the retirement of the slices under a key that have a digest.
+    /// The site adds the retirement of the slices with a key and a digest.
     Retire {
         site: u32,
         key: SliceKey,
@@ -25,21 +25,21 @@ pub enum Event {
     Ask {
         site: u32,
     },
-    /// The site sends the text of what it holds beyond the summary that was sent as this message.
+    /// The site sends the text of its operations that the summary in this message lacks.
     Reply {
         site: u32,
         message: u64,
     },
-    /// The site joins the archive that was sent as this message.
+    /// The site joins the archive in this message.
     Deliver {
         site: u32,
         message: u64,
     },
-    /// The site saves what it holds.
+    /// The site saves its archive.
     Save {
         site: u32,
     },
-    /// The site stops, and begins again from what it saved.
+    /// The site stops, and begins again from the archive that it saved.
     Stop {
         site: u32,
     },

@@ -1,4 +1,4 @@
-//! What a line asks for.
+//! The event of a line.
 
 ghost use Rattle.std.specs.Prelude.{◌≡◌, ◌∷◌, IfOk, option_map};
 ghost use Rattle.archive_core.specs.declared.keys.SliceKey.{SliceKey};
@@ -19,10 +19,10 @@ use std::str;
 use text_values::{Word, cut_field};
 use uuid::Uuid;
 
-/// The most sites of a rehearsal.
+/// The largest number of sites in a rehearsal.
 pub(crate) const MOST_SITES: u32 = 64;
 
-/// How many sites a line asks for, if it does.
+/// The number of sites in a line, if it has one.
 pub fn read_sites(line: &[u8]) -> Option<u32>
     ensures { result ≡ line_sites line.now }
 {
@@ -49,7 +49,7 @@ fn sites_in(text: &str) -> Option<u32>
     }
 }
 
-/// The event that a line means, if it means one.
+/// The event of a line, if it has one. Fails only if memory runs out.
 pub fn read_event(heap: Heap, line: &[u8]) -> Result<Option<Event>, NoMemory>
     ensures { IfOk result (λ event. option_map act_of event ≡ line_act line.now) }
 {
@@ -69,7 +69,7 @@ fn event_in(heap: Heap, text: &str) -> Result<Option<Event>, NoMemory>
     }
 }
 
-// A word, and the site that stands after it.
+// The event with a name, and the site after it.
 fn event_of_word(heap: Heap, word: &str, text: &str) -> Result<Option<Event>, NoMemory>
     ensures { IfOk result (λ event. option_map act_of event ≡ word_act word.now (parts text.now)) }
 {
@@ -81,7 +81,7 @@ fn event_of_word(heap: Heap, word: &str, text: &str) -> Result<Option<Event>, No
     }
 }
 
-// What stands after a word and a site.
+// The event with a name, a site, and the fields after them.
 fn event_at(heap: Heap, word: &str, site: u32, text: &str) -> Result<Option<Event>, NoMemory>
     ensures { IfOk result (λ event. option_map act_of event ≡ act_at word.now site (parts text.now)) }
 {
@@ -138,7 +138,7 @@ fn message_event(word: &str, site: u32, field: &str) -> Option<Event>
     }
 }
 
-// `retire SITE UUID ARCH DIGEST`, where a field that is none of these three stands after the site.
+// `retire SITE UUID ARCH DIGEST`; `uuid` is the field after the site.
 fn long_event(word: &str, site: u32, uuid: &str, text: &str) -> Option<Event>
     ensures { option_map act_of result ≡ act_at word.now site (uuid.now ∷ parts text.now) }
 {

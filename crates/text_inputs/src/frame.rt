@@ -1,4 +1,4 @@
-//! A frame, and why bytes are no frames.
+//! A frame, and the faults of bytes that are no frames.
 
 use archive_core::SliceKey;
 use std::alloc::{AllocError, AllocFailed};
@@ -6,9 +6,9 @@ use std::alloc::{AllocError, AllocFailed};
 /// A frame of a crash: an address in an image.
 #[derive(Clone, Copy, Debug, PartialEq, Eq)]
 pub struct Frame {
-    /// The image.
+    /// The key of the image.
     pub key: SliceKey,
-    /// Where the image was loaded; none where the address is one of the file.
+    /// The load address of the image; none if the address is one of the file.
     pub load: Option<u64>,
     pub address: u64,
 }
@@ -21,7 +21,7 @@ pub enum FramesError {
         /// The number of the first such line, counted from 1.
         line: u64,
     },
-    /// A growth was refused.
+    /// Memory ran out.
     OutOfMemory,
 }
 

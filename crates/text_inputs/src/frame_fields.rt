@@ -1,4 +1,4 @@
-//! The frame that a line tells.
+//! The frame of a line.
 
 ghost use Rattle.std.specs.Prelude.{◌≡◌, ◌≢◌, [], ◌∷◌, MatchOption, length};
 ghost use Rattle.uuid.specs.Text.{parsed};
@@ -29,7 +29,7 @@ fn frame_in(text: &str) -> Option<Frame>
     frame_of(fields.uuid, fields.arch, fields.load, fields.address)
 }
 
-/// Four fields, none of which need have its form.
+/// Four fields, which need not be valid.
 #[derive(Clone, Copy)]
 pub struct FourFields<'t> {
     pub uuid: &'t str,
@@ -71,7 +71,7 @@ fn frame_of(uuid: &str, arch: &str, load: &str, address: &str) -> Option<Frame>
     })
 }
 
-/// Where an image was loaded, or `-` where the address is one of the file.
+/// The load address of an image, or `-` if the address is one of the file.
 pub fn read_load(text: &str) -> Option<Option<u64>>
     ensures { result ≡ load_of text.now }
 {

@@ -1,4 +1,4 @@
-//! What is wrong with a line that tells no frame.
+//! The flaw of a line without a frame.
 
 ghost use Rattle.std.specs.Prelude.{◌≡◌};
 ghost use Rattle.uuid.specs.Text.{parsed};
@@ -13,14 +13,14 @@ use std::str;
 use text_values::{LineFlaw, Word, line_flaw};
 use uuid::Uuid;
 
-/// What is wrong with a line that tells no frame.
+/// The flaw of a line without a frame.
 #[derive(Clone, Copy, Debug, PartialEq, Eq)]
 pub enum FrameFlaw {
-    /// The line, whatever its fields are.
+    /// The whole line is faulty, whatever its fields are.
     Line(LineFlaw),
     /// It has fewer or more than four fields.
     FieldCount,
-    /// The field of this name has not its form. Those before it have theirs.
+    /// The field with this name is not valid. Those before it are.
     Uuid,
     Arch,
     Load,
@@ -54,7 +54,7 @@ fn flaw_in(text: &str) -> FrameFlaw
     }
 }
 
-// Which of four fields has not its form, where one has not.
+// The first of four fields that is not valid, if one is not.
 fn field_flaw(uuid: &str, arch: &str, load: &str) -> FrameFlaw
     ensures { result ≡ field_flaw (parsed uuid.now) (arch_of arch.now) (load_of load.now) }
 {

@@ -1,4 +1,4 @@
-//! Frames, read.
+//! Reads frames.
 
 ghost use Rattle.std.specs.Prelude.{◌≡◌, ◌+◌, ◌<◌, ◌^◌, All, IfErr, IfOk, Ok};
 ghost use Rattle.text_values.specs.Lines.{seen};
@@ -9,12 +9,12 @@ use crate::frame_fields::read_frame;
 use memory::Heap;
 use text_values::lines_that_count;
 
-/// The most bytes that are read: no machine's memory has room for more in one piece.
+/// The largest number of bytes that are read: no machine's memory has room for more in one piece.
 const MOST_BYTES: usize = usize::MAX / 2;
 
-/// Reads frames, of any number, in the order of their lines.
+/// Reads any number of frames, in the order of their lines.
 ///
-/// Memory is asked for before a line is tested, so want of it may be told of bytes that are no frames.
+/// Memory is allocated before a line is tested, so `OutOfMemory` may be reported for bytes that are no frames.
 pub fn read_frames(heap: Heap, bytes: &[u8]) -> Result<Vec<Frame, Heap>, FramesError>
     ensures frames { IfOk result (λ frames. frames_of bytes.now ≡ Ok frames.items) }
     ensures fault { IfErr result (IsErrorOf (frames_of bytes.now)) }

@@ -1,21 +1,21 @@
-//! Inputs of one thing a line: the script of a rehearsal, and the frames of a crash.
+//! Inputs with one item per line: the script of a rehearsal, and the frames of a crash.
 //!
-//! A script is a number of sites, and what happens at them:
+//! A script is a number of sites, and the events at them:
 //!
-//! - `event`: what happens at a site; `script`: what a script says, and why bytes are none;
-//! - `numbers`: decimal numbers, and why a field is none; `events`: what a line asks for;
-//! - `script_flaws`: what is wrong with a faulty line; `script_reading`: a script, read;
-//! - [`script_laws`]: what holds of scripts.
+//! - `event`: an event at a site; `script`: a script, and the faults of other bytes;
+//! - `numbers`: decimal numbers, and the flaws of other fields; `events`: the event of a line;
+//! - `script_flaws`: the flaw of a faulty line; `script_reading`: reads a script;
+//! - [`script_laws`]: laws about scripts.
 //!
 //! Frames are addresses, each in an image:
 //!
-//! - `frame`: a frame, and why bytes are no frames; `frame_fields`: the frame that a line holds;
-//! - `frame_flaws`: what is wrong with a line that holds none; `frame_reading`: frames, read;
-//! - [`frame_laws`]: what holds of frames.
+//! - `frame`: a frame, and the faults of bytes that are no frames; `frame_fields`: the frame of a line;
+//! - `frame_flaws`: the flaw of a line without a frame; `frame_reading`: reads frames;
+//! - [`frame_laws`]: laws about frames.
 //!
 //! # Why it is so
 //!
-//! - Too many bytes are want of memory. The flaw of a line is found from that line alone.
+//! - Too many bytes are `OutOfMemory`. The flaw of a line depends on that line alone.
 #![tactic(auto)]
 
 mod event;

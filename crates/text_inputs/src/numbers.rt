@@ -1,4 +1,4 @@
-//! Decimal numbers, and why a field is none.
+//! Decimal numbers, and the flaws of other fields.
 
 ghost use Rattle.std.specs.Prelude.{◌≡◌, ◌≢◌, length, slice_index};
 ghost use Rattle.std.specs.Char.{is_ascii_digit};
@@ -8,11 +8,11 @@ ghost use Rattle.text_inputs.specs.Numbers.{are_digits, leads_with_zero, number_
 /// Why a field is no number.
 #[derive(Clone, Copy, Debug, PartialEq, Eq)]
 pub enum NumberFlaw {
-    /// It has no byte, or one that is no decimal digit.
+    /// It has no byte, or one that is not a decimal digit.
     NotDecimal,
-    /// Its digits are several, and the first is `0`.
+    /// It has several digits, and the first is `0`.
     LeadingZeros,
-    /// Its digits are those of a number that is too large.
+    /// Its number is too large.
     TooLarge,
 }
 
@@ -27,7 +27,7 @@ pub fn read_number(text: &str) -> Option<u32>
     parse_digits(text)
 }
 
-// The number that a text spells which has no plus and no leading zero.
+// The number in decimal digits, without a plus sign or leading zeros.
 fn parse_digits(text: &str) -> Option<u32>
     requires plus { slice_index text.now 0 ≢ 43 }
     requires alone { slice_index text.now 0 ≡ 48 → length text.now ≡ 1 }

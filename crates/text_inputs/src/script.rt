@@ -1,19 +1,19 @@
-//! What a script says, and why bytes are none.
+//! A script, and the faults of bytes that are none.
 
 use crate::Event;
 use memory::Heap;
 use std::alloc::{AllocError, AllocFailed};
 
-/// A script: how many sites there are, and what happens at them, in this order.
+/// A script: the number of sites, and the events at them, in this order.
 #[derive(Debug, Drop)]
 pub struct Script {
-    /// From 1 to 64.
+    /// The number of sites, from 1 to 64.
     pub sites: u32,
-    /// At most 10,000. An event may name a site or a message that does not exist.
+    /// At most 10,000 events. An event may name a site or a message that does not exist.
     pub events: Vec<Event, Heap>,
 }
 
-/// What is wrong with the first faulty line of a script.
+/// The fault of the first faulty line of a script.
 #[derive(Clone, Copy, Debug, PartialEq, Eq)]
 pub enum ScriptFault {
     /// The first line that counts is no `sites N` with N from 1 to 64, or no line counts.
@@ -29,12 +29,12 @@ pub enum ScriptFault {
 pub enum ScriptError {
     /// The bytes are no script.
     Faulty {
-        /// What is wrong with the first faulty line.
+        /// The fault of the first faulty line.
         fault: ScriptFault,
-        /// The number of that line, counted from 1; that of the lines plus one where none counts.
+        /// The number of that line, counted from 1; if no line counts, the number of lines plus one.
         line: u64,
     },
-    /// A growth was refused.
+    /// Memory ran out.
     OutOfMemory,
 }
 

@@ -1,4 +1,4 @@
-//! What is wrong with the first faulty line of a script.
+//! The flaw of the first faulty line of a script.
 
 ghost use Rattle.std.specs.Prelude.{◌≡◌, ◌∷◌, Some, codes, length};
 ghost use Rattle.uuid.specs.Text.{parsed};
@@ -16,20 +16,20 @@ use std::str;
 use text_values::{LineFlaw, Word, cut_field, line_flaw};
 use uuid::Uuid;
 
-/// What is wrong with the first faulty line of a script.
+/// The flaw of the first faulty line of a script.
 #[derive(Clone, Copy, Debug, PartialEq, Eq)]
 pub enum ScriptFlaw {
-    /// The line, whatever its fields are.
+    /// The whole line is faulty, whatever its fields are.
     Line(LineFlaw),
     /// It is no `sites N`, or N is 0.
     Sites,
     /// It is `sites N`, and N is no number, or above 64.
     SiteCount(NumberFlaw),
-    /// It begins with no word of an event.
+    /// It does not begin with the name of an event.
     Word,
-    /// It has fewer or more fields than its word wants.
+    /// It has fewer or more fields than its event requires.
     FieldCount,
-    /// The field of this name has not its form. Those before it have theirs.
+    /// The field with this name is not valid. Those before it are.
     Site(NumberFlaw),
     Bytes,
     Message(NumberFlaw),
@@ -38,7 +38,7 @@ pub enum ScriptFlaw {
     Digest,
 }
 
-/// What is wrong with a line that has this fault, where that is not all.
+/// The flaw of a line with this fault, if the fault does not say everything.
 pub fn script_flaw(fault: ScriptFault, line: &[u8]) -> Option<ScriptFlaw>
     ensures { result ≡ script_flaw fault line.now }
 {
@@ -80,7 +80,7 @@ fn sites_flaw_in(text: &str) -> ScriptFlaw
     }
 }
 
-// What is wrong with what stands after `sites`, where one field has to.
+// The flaw of the fields after `sites`; there must be one.
 fn number_after_flaw(text: &str) -> ScriptFlaw
     ensures { result ≡ sites_flaw (codes "sites" ∷ parts text.now) }
 {
@@ -121,7 +121,7 @@ fn flaw_in(text: &str) -> ScriptFlaw
     }
 }
 
-// How many fields stand after the word of an event.
+// The number of fields after the name of an event.
 fn count_after(word: &str) -> Option<usize>
     ensures { result ≡ count_after word.now }
 {
@@ -186,7 +186,7 @@ fn flaw_after_site(word: &str, text: &str) -> ScriptFlaw
     }
 }
 
-// Which of a UUID, an architecture and a digest has not its form, where one has not.
+// The first of a UUID, an architecture and a digest that is not valid, if one is not.
 fn key_flaw(uuid: &str, arch: &str) -> ScriptFlaw
     ensures { result ≡ key_flaw (parsed uuid.now) (arch_of arch.now) }
 {

@@ -1,6 +1,6 @@
-//! What holds of scripts.
+//! Laws about scripts.
 //!
-//! Each law is the contract of a function with an empty body, and speaks of the definitions alone.
+//! Each law is the contract of a function with an empty body, and its clauses are about the definitions alone.
 ghost use Rattle.std.specs.Prelude.{◌≡◌, ◌<◌, ◌^◌, ◌⊎◌, ℕ, List, Some, Ok, Err};
 ghost use Rattle.std.specs.Fmt.{decimal};
 ghost use Rattle.text_inputs.specs.Events.{Act};
@@ -8,14 +8,14 @@ ghost use Rattle.text_inputs.specs.Numbers.{number_of};
 ghost use Rattle.text_inputs.specs.Script.{IsFirstFault, IsScript, script_of};
 ghost use Rattle.text_inputs.specs.declared.script.ScriptFault.{ScriptFault};
 
-/// A field is a number exactly where it is what is printed of that number.
+/// A field is a number exactly if it is the printed form of that number.
 pub fn numbers_as_printed()
     ensures printed { (n : ℕ) → n < 2 ^ 32 → number_of (decimal n) ≡ Some n }
     ensures only { (field : List ℕ) (n : ℕ) → number_of field ≡ Some n → (n < 2 ^ 32) × (field ≡ decimal n) }
 {}
 
-/// Bytes say a script exactly where the first line that counts says how many sites, each further one is an event, and
-/// these are no more than 10,000.
+/// Bytes are a script exactly if the first line that counts has the number of sites, each further one is an event, and
+/// there are no more than 10,000 of them.
 pub fn script_of_lines()
     ensures lines { (bytes : List ℕ) (sites : ℕ) (events : List Act)
         → script_of bytes ≡ Ok (sites, events)
@@ -25,7 +25,7 @@ pub fn script_of_lines()
         → script_of bytes ≡ Ok (sites, events) }
 {}
 
-/// Else the first faulty line is told, by its number, counted from 1, and by what is wrong with it.
+/// Otherwise the fault is that of the first faulty line, with its number, counted from 1.
 pub fn fault_of_lines()
     ensures lines { (bytes : List ℕ) (fault : ScriptFault) (line : ℕ)
         → script_of bytes ≡ Err (fault, line)
@@ -35,7 +35,7 @@ pub fn fault_of_lines()
         → script_of bytes ≡ Err (fault, line) }
 {}
 
-/// Bytes are a script or have a fault, one at one line, and never both.
+/// Bytes are a script or have exactly one fault at one line, and never both.
 pub fn script_or_fault()
     ensures either { (bytes : List ℕ)
         → ((sites : ℕ) × (events : List Act) × IsScript bytes sites events)

@@ -1,4 +1,4 @@
-//! A script, read.
+//! Reads a script.
 
 ghost use Rattle.std.specs.Prelude.{◌≡◌, ◌+◌, ◌<◌, ◌^◌, All, IfErr, IfOk, Ok};
 ghost use Rattle.text_values.specs.Lines.{seen};
@@ -10,16 +10,16 @@ use crate::script::{Script, ScriptError, ScriptFault};
 use memory::Heap;
 use text_values::{lines_that_count, number_of_lines};
 
-/// The most events of a script.
+/// The largest number of events in a script.
 const MOST_EVENTS: usize = 10_000;
 
-/// The most bytes of a script: no machine's memory has room for more in one piece.
+/// The largest number of bytes in a script: no machine's memory has room for more in one piece.
 const MOST_BYTES: usize = usize::MAX / 2;
 
 /// Reads a script.
 ///
-/// The lines are tested in their order, and the line of an event after 10,000 others for its form first. Memory is
-/// asked for as the lines are read, so want of it may be told of bytes that are no script.
+/// The lines are tested in their order; an event after 10,000 others is tested for its form first. Memory is allocated
+/// as the lines are read, so `OutOfMemory` may be reported for bytes that are no script.
 pub fn read_script(heap: Heap, bytes: &[u8]) -> Result<Script, ScriptError>
     ensures script { IfOk result (λ script. script_of bytes.now ≡ Ok (script.sites, acts script.events.items)) }
     ensures fault { IfErr result (IsErrorOf (script_of bytes.now)) }
@@ -38,7 +38,7 @@ pub fn read_script(heap: Heap, bytes: &[u8]) -> Result<Script, ScriptError>
     Ok(Script { sites, events })
 }
 
-// What is wrong with the line after so many others.
+// The error for this fault at the line after this number of lines.
 fn faulty(fault: ScriptFault, before: u64) -> ScriptError
     requires { before + 1 < 2 ^ 64 }
     ensures { result ≡ ScriptError.Faulty fault (before + 1) }

@@ -3,7 +3,7 @@ use Rattle.std.specs.Prelude.{ℕ, List, ◌∷◌, [], ◌++◌, Bool, ◌==◌
 use Rattle.std.specs.List.{flat_map}
 use Rattle.text_values.specs.Words.{hex_digits}
 
--- a byte that is no printed character of ASCII, and the backslash
+-- a byte that is no printable ASCII character, or is the backslash
 abbrev pub is_escaped : ℕ → Bool
 is_escaped byte = nat_lt byte 0x20 || nat_lt 0x7e byte || (byte == 0x5c)
 

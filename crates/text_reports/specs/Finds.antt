@@ -14,28 +14,28 @@ use Rattle.text_reports.specs.Rows.{key_text}
 use Rattle.text_reports.specs.declared.finds.KeyForm.{KeyForm}
 use Rattle.text_reports.specs.declared.finds.KeyForm.TheVariants.{Arch, Whole}
 
--- what a row tells of a slice
+-- the text of a row's state
 unfoldable pub find_state_text : FindState → List ℕ
 find_state_text Retired = codes "retired"
 find_state_text Image = codes "image"
 find_state_text Dsym = codes "dsym"
 
--- what a line tells of a key: under one UUID its architecture, and else all of it
+-- the text of a key in a line: in the lines of one UUID its architecture, otherwise the whole key
 abbrev pub key_form_text : KeyForm → SliceKey → List ℕ
 key_form_text Arch key = arch_text key.arch
 key_form_text Whole key = key_text key
 
--- a row
+-- the text of a row
 unfoldable pub find_row_text : KeyForm → FindRow → List ℕ
 find_row_text form row = key_form_text form row.key ++ codes " " ++ find_state_text row.state ++ codes " "
     ++ digest_text row.digest
 
--- adjacent rows of one key
+-- adjacent rows with one key
 pub record Group : Type 0 where
   pub key : SliceKey
   pub rows : List FindRow
 
--- a row before groups: it leads the first one where that is of its key, and else a group of its own
+-- a row before groups: it becomes the first of the first group if that has its key, otherwise a group of its own
 abbrev pub with_row : FindRow → List Group → List Group
 with_row row [] = record { key = row.key; rows = row ∷ [] } ∷ []
 with_row row (group ∷ groups) =
@@ -47,12 +47,12 @@ unfoldable pub groups : List FindRow → List Group
 groups [] = []
 groups (row ∷ rows) = with_row row (groups rows)
 
--- the line that tells how many slices answer, where they are several
+-- the line with the number of slices that answer, if there are several
 unfoldable pub conflict_line : KeyForm → SliceKey → ℕ → List ℕ
 conflict_line form key count =
     if nat_lt count 2 then [] else line (key_form_text form key ++ codes " conflict " ++ decimal count)
 
--- a line a row, and after them the conflict
+-- a line for each row, and after them the conflict
 unfoldable pub group_lines : KeyForm → Group → List ℕ
 group_lines form group = flat_map (λ row. line (find_row_text form row)) group.rows
     ++ conflict_line form group.key (answering_count group.rows group.key.arch)
@@ -61,7 +61,7 @@ group_lines form group = flat_map (λ row. line (find_row_text form row)) group.
 unfoldable pub groups_lines : KeyForm → List FindRow → List ℕ
 groups_lines form rows = flat_map (group_lines form) (groups rows)
 
--- the lines of `find`, which are all under one UUID
+-- the lines of `find`, all of one UUID
 abbrev pub find_lines : List FindRow → List ℕ
 find_lines rows = groups_lines Arch rows
 

@@ -8,16 +8,16 @@ use Rattle.dwarf_source_frames.specs.Frames.{FrameRecord}
 use Rattle.text_reports.specs.Escapes.{escaped, escaped_byte}
 use Rattle.text_reports.specs.Report.{line}
 
--- what comes after a byte of a name begins with `at `, where a space comes after the name
+-- the bytes after a byte of a name begin with `at `, if a space follows the name
 abbrev pub is_at : List ℕ → Bool
 is_at after = starts_with nat_eq (after ++ codes " ") (codes "at ")
 
--- a byte of the name of a function, before others: as in any name, but a space before `at ` as `\x20`
+-- a byte in the name of a function, before others: as in any name, except that a space before `at ` is `\x20`
 unfoldable pub function_byte : ℕ → List ℕ → List ℕ
 function_byte byte after =
     if (byte == 0x20) && is_at after then codes "\\x20" else escaped_byte byte
 
--- the name of a function: the first ` at ` of its line comes after it
+-- the name of a function: the first ` at ` of its line is after it
 unfoldable pub function_text : List ℕ → List ℕ
 function_text [] = []
 function_text (byte ∷ after) = function_byte byte after ++ function_text after
@@ -32,7 +32,7 @@ abbrev pub path_or_unknown : Option PathRecord → List ℕ
 path_or_unknown None = codes "?"
 path_or_unknown (Some parts) = escaped (path_of parts)
 
--- a function, and where it stands: NAME at PATH:LINE:COLUMN
+-- a function and its location: NAME at PATH:LINE:COLUMN
 unfoldable pub frame_text : FrameRecord → List ℕ
 frame_text frame =
     function_or_unknown frame.name ++ codes " at " ++ path_or_unknown frame.path ++ codes ":" ++ decimal frame.line
@@ -42,6 +42,6 @@ frame_text frame =
 abbrev pub frame_line : FrameRecord → List ℕ
 frame_line frame = line (codes "    " ++ frame_text frame)
 
--- a line a frame
+-- a line for each frame
 abbrev pub frame_lines : List FrameRecord → List ℕ
 frame_lines frames = flat_map frame_line frames

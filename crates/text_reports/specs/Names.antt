@@ -7,12 +7,12 @@ use Rattle.text_reports.specs.Escapes.{escaped}
 use Rattle.text_reports.specs.Report.{line}
 use Rattle.text_reports.specs.Rows.{key_text}
 
--- where a symbol stands: its slice, its address, and its section
+-- a symbol: its slice, its address, and its section
 unfoldable pub name_row_text : NameRecord → List ℕ
 name_row_text row =
     key_text row.key ++ codes " " ++ digest_text (record { 0 = row.digest }) ++ codes " " ++ address_text row.address
     ++ codes " (" ++ escaped row.segment ++ codes "," ++ escaped row.section ++ codes ")"
 
--- a line a row
+-- a line for each row
 abbrev pub name_lines : List NameRecord → List ℕ
 name_lines rows = flat_map (λ row. line (name_row_text row)) rows

@@ -13,7 +13,7 @@ use Rattle.text_reports.specs.declared.rows.AdmitRow.{AdmitRow}
 abbrev pub line : List ℕ → List ℕ
 line text = text ++ 10 ∷ []
 
--- a line a slice
+-- a line for each slice
 abbrev pub admit_lines : List AdmitRow → List ℕ
 admit_lines rows = flat_map (λ row. line (admit_row_text row)) rows
 
@@ -23,11 +23,11 @@ retire_line changed key digest =
     line ((if changed then codes "retired" else codes "known") ++ codes " " ++ key_text key ++ codes " "
     ++ digest_text digest)
 
--- how many records of an operations file were new, and how many were known: there, or covered by a retirement
+-- the numbers of records of an operations file that were new, and that were known: present, or covered by a retirement
 abbrev pub apply_line : ℕ → ℕ → List ℕ
 apply_line new known = line (codes "applied: " ++ decimal new ++ codes " new, " ++ decimal known ++ codes " known")
 
--- how many entries of a summary were written, and how many bytes
+-- the numbers of a summary's entries and bytes that were written
 abbrev pub summary_line : Sizes → List ℕ
 summary_line sizes = line (codes "summary: " ++ decimal sizes.records ++ codes " entries, " ++ decimal sizes.bytes
     ++ codes " bytes")

@@ -13,7 +13,7 @@ use Rattle.text_reports.specs.declared.rows.AdmitRow.{AdmitRow}
 unfoldable pub key_text : SliceKey → List ℕ
 key_text key = hyphenated_text lower key.uuid ++ codes " " ++ arch_text key.arch
 
--- what became of a slice
+-- the result of admitting a slice
 unfoldable pub taken_text : Taken → List ℕ
 taken_text (Added key digest) = codes "added " ++ key_text key ++ codes " " ++ digest_text digest
 taken_text (Known key digest) = codes "known " ++ key_text key ++ codes " " ++ digest_text digest
@@ -24,7 +24,7 @@ unfoldable pub admit_row_text : AdmitRow → List ℕ
 admit_row_text row = codes "file " ++ decimal row.file ++ codes " slice " ++ decimal row.slice ++ codes " "
     ++ taken_text row.taken
 
--- how much was written
+-- the sizes of the written text
 unfoldable pub sizes_text : Sizes → List ℕ
 sizes_text sizes = codes "archive: " ++ decimal sizes.records ++ codes " records, " ++ decimal sizes.bytes
     ++ codes " bytes"

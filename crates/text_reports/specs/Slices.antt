@@ -1,4 +1,4 @@
--- The lines of the slices that answer under keys.
+-- The lines of the slices that answer for keys.
 use Rattle.std.specs.Prelude.{◌≡◌, ◌≢◌, ◌↔◌, ◌⊎◌, ℕ, List, ◌++◌, codes, Contains}
 use Rattle.std.specs.List.{flat_map}
 use Rattle.std.specs.List.Sorted.{IsStrictlySortedBy}
@@ -14,7 +14,7 @@ use Rattle.text_reports.specs.Report.{line}
 use Rattle.text_reports.specs.Rows.{key_text}
 use Rattle.text_reports.specs.declared.finds.KeyForm.TheVariants.{Whole}
 
--- two rows are of one slice: they have one key and one digest
+-- two rows are for one slice: they have the same key and digest
 abbrev pub AreOfOneSlice : FindRow → FindRow → Type 0
 AreOfOneSlice a b = (a.key ≡ b.key) × (a.digest ≡ b.digest)
 
@@ -23,16 +23,16 @@ abbrev pub IsRetiredAmong : List FindRow → FindRow → Type 0
 IsRetiredAmong rows row =
     (other : FindRow) × Contains rows other × (other.state ≡ Retired) × AreOfOneSlice other row
 
--- the row is one of these, and of a slice that none of them retires
+-- the row is one of these, and for a slice that none of them retires
 abbrev pub LivesAmong : List FindRow → FindRow → Type 0
 LivesAmong rows row = Contains rows row × (row.state ≢ Retired) × (IsRetiredAmong rows row → ⊥)
 
--- no companion under the key of this row lives among these
+-- no companion with the key of this row is live among these
 abbrev pub HasNoCompanionAmong : List FindRow → FindRow → Type 0
 HasNoCompanionAmong rows row =
     (other : FindRow) → LivesAmong rows other → other.key ≡ row.key → other.state ≢ Dsym
 
--- the row is of a slice that answers, as these rows have it: a companion, or an image whose key has none
+-- the row is for a slice that answers, by these rows: a companion, or an image whose key has none
 abbrev pub AnswersAmong : List FindRow → FindRow → Type 0
 AnswersAmong rows row = LivesAmong rows row × ((row.state ≡ Dsym) ⊎ HasNoCompanionAmong rows row)
 
@@ -40,11 +40,11 @@ AnswersAmong rows row = LivesAmong rows row × ((row.state ≡ Dsym) ⊎ HasNoCo
 abbrev pub slice_key_cmp : SliceKey → SliceKey → Ordering
 slice_key_cmp = on key_bytes (slice_cmp nat_cmp)
 
--- rows by their keys, and under one key by the digests
+-- rows by their keys, and for one key by their digests
 abbrev pub slice_row_cmp : FindRow → FindRow → Ordering
 slice_row_cmp = then_cmp (on (λ row. row.key) slice_key_cmp) (on (λ row. row.digest.0) (slice_cmp nat_cmp))
 
--- no slice answers under the key
+-- no slice answers for the key
 abbrev pub absent_text : SliceKey → List ℕ
 absent_text key = key_text key ++ codes " absent"
 
@@ -53,8 +53,8 @@ abbrev pub slices_lines : List FindRow → List SliceKey → List ℕ
 slices_lines rows absent =
     flat_map (λ row. line (find_row_text Whole row)) rows ++ flat_map (λ key. line (absent_text key)) absent
 
--- The lines of all rows of which this is true, each once, by their keys and digests; and of those of these keys under
--- which there is none.
+-- The lines of all rows with the property, each once, by their keys and digests; and of those of these keys that have
+-- none.
 pub record TellsSlices (IsRow : FindRow → Type 0) (keys : List SliceKey) (text : List ℕ) : Type 0 where
   pub rows : List FindRow
   pub absent : List SliceKey

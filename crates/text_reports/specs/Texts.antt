@@ -26,11 +26,11 @@ use Rattle.fat_slices.specs.declared.fat_fault.FatFault.TheVariants.{TooLarge as
 use Rattle.text_inputs.specs.declared.script.ScriptFault.{ScriptFault}
 use Rattle.text_inputs.specs.declared.script.ScriptFault.TheVariants.{NoSites, BadEvent, TooManyEvents}
 
--- a fault's name, and what it holds in parentheses
+-- a fault's name, and its value in parentheses
 abbrev pub called : List ℕ → List ℕ → List ℕ
 called name inside = name ++ codes "(" ++ inside ++ codes ")"
 
--- the fault of an image; a number is the place of the load command
+-- the fault of an image; a number is the index of the load command
 unfoldable pub image_fault_text : ImageFault → List ℕ
 image_fault_text NotMachO64 = codes "NotMachO64"
 image_fault_text HeaderTruncated = codes "HeaderTruncated"
@@ -73,7 +73,7 @@ record_fault_kind_text Covered = codes "Covered"
 unfoldable pub record_fault_text : RecordFault → List ℕ
 record_fault_text fault = record_fault_kind_text fault.kind ++ codes " at " ++ decimal fault.offset
 
--- the fault of a universal file; a number is that of its entries, or the place of one
+-- the fault of a universal file; a number is that of its entries, or the index of one
 unfoldable pub fat_fault_text : FatFault → List ℕ
 fat_fault_text NotUniversal = codes "NotUniversal"
 fat_fault_text FatHeaderTruncated = codes "HeaderTruncated"
@@ -82,7 +82,7 @@ fat_fault_text TableTruncated = codes "TableTruncated"
 fat_fault_text (SliceOutside entry) = called (codes "SliceOutside") (decimal entry)
 fat_fault_text (FatTooLarge entry) = called (codes "TooLarge") (decimal entry)
 
--- the fault of a file whose slices are asked for
+-- the fault of a file whose slices are to be admitted
 unfoldable pub take_fault_text : TakeFault → List ℕ
 take_fault_text Unrecognised = codes "Unrecognised"
 take_fault_text (Fat fault) = called (codes "Fat") (fat_fault_text fault)
@@ -90,7 +90,7 @@ take_fault_text (Slice slice fault) = called (codes "Slice") (decimal slice ++ c
 take_fault_text NothingToAdmit = codes "NothingToAdmit"
 take_fault_text TakeOutOfMemory = codes "OutOfMemory"
 
--- what is wrong with the first faulty line of a script
+-- the fault of the first faulty line of a script
 unfoldable pub script_fault_text : ScriptFault → List ℕ
 script_fault_text NoSites = codes "NoSites"
 script_fault_text BadEvent = codes "BadEvent"

@@ -6,7 +6,7 @@ ghost use Rattle.text_reports.specs.Escapes.{escaped, is_escaped};
 ghost use Rattle.text_reports.specs.FrameLists.{lists_view};
 
 use crate::Text;
-use crate::frames::{push_at, push_each};
+use crate::frames::{push_frame_list_at, push_frame_lists};
 use archive_core::{Answer, Digest, Own};
 use dwarf_source_frames::SourceFrame;
 use macho_symbols::Found;
@@ -14,8 +14,8 @@ use memory::{Heap, NoMemory};
 use std::{fmt, str};
 use text_values::{Address, Spelled};
 
-/// A name of a symbol, a segment or a section as it is printed: each byte that is no printed
-/// character of ASCII, and the backslash, as `\x` and two hex digits.
+/// A name of a symbol, a segment or a section as it is printed: each byte that is no printable ASCII character, and the
+/// backslash, as `\x` and two hex digits.
 #[derive(Clone, Copy, Debug, PartialEq, Eq)]
 pub struct Escaped<'a>(pub &'a [u8]);
 
@@ -35,7 +35,7 @@ fn has_escaped(name: &[u8]) -> bool
     name.iter().any(|byte| is_escaped(*byte))
 }
 
-// A name as it is printed, where each of its bytes is printed as itself.
+// A name as it is printed, if each of its bytes is printed unchanged.
 #[tactic(auto, using(crate::proofs::Escapes::plain_is_escaped))]
 fn plain(name: &[u8]) -> Option<&str>
     ensures { IfSome result (λ text. text.now ≡ escaped name.now) }
@@ -135,15 +135,15 @@ fn push_owns(
 {
     'owns: for (index, own) in owns.iter().enumerate() {
         push_own(text, own)?;
-        push_at(heap, text, frames, index)?;
+        push_frame_list_at(heap, text, frames, index)?;
     }
     Ok(())
 }
 
-/// Writes what a key answers for an address: a line, and after it those of the frames. The line of a conflict is
+/// Writes the answer of a key for an address: a line, and after it those of the frames. The line of a conflict is
 /// followed by one for each slice that answers, and by those of its frames. `frames` has the frames of each slice that
-/// answers, in the order of their records, or is empty where none are wanted. Where memory is refused, a part of the
-/// lines may stand there.
+/// answers, in the order of their records, or is empty if none are asked for. If memory runs out, a part of the lines
+/// may have been written.
 #[tactic(auto, unfolding(crate::specs::Answers::answer_lines))]
 pub fn push_answer(
     heap: &Heap,
@@ -169,5 +169,5 @@ pub fn push_answer(
             return push_owns(heap, text, owns, frames);
         }
     }
-    push_each(heap, text, frames)
+    push_frame_lists(heap, text, frames)
 }

@@ -12,23 +12,23 @@ use memory::{Heap, NoMemory};
 use std::fmt;
 use text_values::Spelled;
 
-// What a line tells of a key.
+// The form of a key in a line.
 #[derive(Clone, Copy)]
 pub(crate) enum KeyForm {
-    // The architecture, where all lines are under one UUID.
+    // The architecture only, if all lines have one UUID.
     Arch,
-    // The UUID too.
+    // The UUID and the architecture.
     Whole,
 }
 
-// A key as a line tells it.
+// A key, with its form in a line.
 #[derive(Clone, Copy)]
 struct KeyText {
     form: KeyForm,
     key: SliceKey,
 }
 
-// A row as a line tells it.
+// A row, with the form of its key in a line.
 #[derive(Clone, Copy)]
 struct Row {
     form: KeyForm,
@@ -83,21 +83,21 @@ impl fmt::Display for Row {
     }
 }
 
-// Whether a row is of a live companion of the architecture.
+// Whether a row is for a live companion with the architecture.
 fn is_dsym_row(arch: ArchKey, row: &FindRow) -> bool
     ensures { result ≡ is_dsym_row arch row.now }
 {
     row.key.arch == arch && matches!(row.state, FindState::Dsym)
 }
 
-// Whether a row is of another live slice of the architecture.
+// Whether a row is for another live slice with the architecture.
 fn is_image_row(arch: ArchKey, row: &FindRow) -> bool
     ensures { result ≡ is_image_row arch row.now }
 {
     row.key.arch == arch && matches!(row.state, FindState::Image)
 }
 
-// How many slices of an architecture answer, as rows tell it.
+// The number of slices with an architecture that answer, by the rows.
 fn answering_count(rows: &[FindRow], arch: ArchKey) -> usize
     ensures { result ≡ answering_count rows.now arch }
 {
@@ -109,7 +109,7 @@ fn answering_count(rows: &[FindRow], arch: ArchKey) -> usize
     }
 }
 
-// How many of the first rows are of a key.
+// The number of first rows with a key.
 fn group_len(rows: &[FindRow], key: &SliceKey) -> usize
     ensures len { result ≡ prefix_len (λ row. is_key row.key key.now) rows.now }
     ensures within { result ≤ length rows.now }
@@ -117,7 +117,7 @@ fn group_len(rows: &[FindRow], key: &SliceKey) -> usize
     rows.iter().take_while(|row| is_key(&row.key, key)).count()
 }
 
-// Writes a line a row.
+// Writes a line for each row.
 pub(crate) fn push_rows(
     text: &mut String<Heap>,
     form: KeyForm,
@@ -133,7 +133,7 @@ pub(crate) fn push_rows(
     Ok(())
 }
 
-// Writes the line of a conflict where several slices answer.
+// Writes the line of a conflict if several slices answer.
 #[tactic(auto, unfolding(crate::specs::Finds::conflict_line))]
 fn push_conflict(
     text: &mut String<Heap>,
@@ -150,7 +150,7 @@ fn push_conflict(
     Ok(())
 }
 
-// A line a row, and after the rows of a key the line of its conflict.
+// A line for each row, and after the rows with a key the line of its conflict.
 fn groups_lines(heap: Heap, form: KeyForm, rows: &[FindRow]) -> Result<String<Heap>, NoMemory>
     ensures { IfOk result (λ text. string_bytes text ≡ groups_lines form rows.now) }
 {
@@ -166,15 +166,15 @@ fn groups_lines(heap: Heap, form: KeyForm, rows: &[FindRow]) -> Result<String<He
     Ok(text)
 }
 
-/// The lines of `find`: one a row, and after the rows of an architecture for which several slices
-/// answer the one that says how many. Companions that are live answer alone.
+/// The lines of `find`: one for each row, and after the rows with an architecture for which several slices answer the
+/// line with their number. Live companions answer alone. Fails only if memory runs out.
 pub fn find_lines(heap: Heap, rows: &[FindRow]) -> Result<String<Heap>, NoMemory>
     ensures { IfOk result (λ text. string_bytes text ≡ find_lines rows.now) }
 {
     groups_lines(heap, KeyForm::Arch, rows)
 }
 
-/// The lines of `list`: those of `find` for each UUID, with the UUID before each.
+/// The lines of `list`: those of `find` for each UUID, with the UUID before each. Fails only if memory runs out.
 pub fn list_lines(heap: Heap, rows: &[FindRow]) -> Result<String<Heap>, NoMemory>
     ensures { IfOk result (λ text. string_bytes text ≡ list_lines rows.now) }
 {

@@ -25,7 +25,7 @@ fn is_at(after: &[u8]) -> bool
     }
 }
 
-// Writes a byte of the name of a function, before others.
+// Writes a byte in the name of a function, before others.
 #[tactic(auto, unfolding(crate::specs::Frames::function_byte))]
 fn push_byte(text: &mut String<Heap>, byte: u8, after: &[u8]) -> Result<(), NoMemory>
     ensures { OnOk result (string_bytes text.new ≡ string_bytes text.old ++ function_byte byte after.now) }
@@ -105,7 +105,8 @@ pub(crate) fn push_frames(
     Ok(())
 }
 
-pub(crate) fn push_each(
+/// Writes the lines of the frames of each list, in order.
+pub(crate) fn push_frame_lists(
     heap: &Heap,
     text: &mut String<Heap>,
     frames: &[&[SourceFrame<'_>]],
@@ -119,8 +120,8 @@ pub(crate) fn push_each(
     Ok(())
 }
 
-/// Writes the lines of the frames of the list at an index, where there is one.
-pub(crate) fn push_at(
+/// Writes the lines of the frames of the list at an index, if there is one.
+pub(crate) fn push_frame_list_at(
     heap: &Heap,
     text: &mut String<Heap>,
     frames: &[&[SourceFrame<'_>]],

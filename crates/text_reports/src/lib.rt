@@ -1,14 +1,14 @@
-//! What is printed: the lines of reports, and the texts of faults.
+//! The output of the program: the lines of reports, and the texts of faults.
 //!
 //! - `texts`: the printed texts of faults;
 //! - `rows`: keys and the rows of reports;
-//! - `report`: reports, made whole in memory;
+//! - `report`: reports, built whole in memory;
 //! - `finds`: the lines of `find` and of `list`;
-//! - `slices`: the lines of the slices that answer under keys;
+//! - `slices`: the lines of the slices that answer for keys;
 //! - `frames`: the lines of source frames;
 //! - `answers`: the lines of `symbolicate`;
 //! - `names`: the lines of `name`;
-//! - [`laws`]: what holds of the lines of `find` and of `list`.
+//! - [`laws`]: laws about the lines of `find` and of `list`.
 //!
 //! # Why it is so
 //!

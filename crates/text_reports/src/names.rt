@@ -27,7 +27,7 @@ impl<'r, 'a> fmt::Display for Text<&'r NameRow<'a>> {
     }
 }
 
-/// The lines of `name`: one for each place where a symbol of the name stands, in the order of the rows.
+/// The lines of `name`: one for each symbol with the name, in the order of the rows. Fails only if memory runs out.
 pub fn name_lines(heap: Heap, rows: &[OwnedNameRow]) -> Result<String<Heap>, NoMemory>
     ensures { IfOk result (λ text. string_bytes text ≡ name_lines (map owned_name_view rows.now)) }
 {

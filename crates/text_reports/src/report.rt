@@ -1,4 +1,4 @@
-//! Reports, made whole in memory before their first byte is printed.
+//! Reports, built whole in memory before their first byte is printed.
 ghost use Rattle.std.specs.Prelude.{◌≡◌, ◌++◌, IfOk, string_bytes};
 ghost use Rattle.text_reports.specs.Report.{admit_lines, retire_line, apply_line, archive_line, summary_line};
 
@@ -8,7 +8,7 @@ use archive_records::Sizes;
 use memory::{Heap, NoMemory};
 use text_values::Spelled;
 
-/// The lines of `admit`: one a slice, in the order of the rows.
+/// The lines of `admit`: one for each slice, in the order of the rows. Fails only if memory runs out.
 pub fn admit_lines(heap: Heap, rows: &[AdmitRow]) -> Result<String<Heap>, NoMemory>
     ensures { IfOk result (λ text. string_bytes text ≡ admit_lines rows.now) }
 {
@@ -36,8 +36,8 @@ pub fn retire_line(
     Ok(text)
 }
 
-/// The line of `apply`: how many records of the file were new, and how many were known: there, or covered by a
-/// retirement.
+/// The line of `apply`: the numbers of records of the file that were new, and that were known: present, or covered by a
+/// retirement. Fails only if memory runs out.
 pub fn apply_line(heap: Heap, new: u64, known: u64) -> Result<String<Heap>, NoMemory>
     ensures { IfOk result (λ text. string_bytes text ≡ apply_line new known) }
 {
@@ -46,7 +46,7 @@ pub fn apply_line(heap: Heap, new: u64, known: u64) -> Result<String<Heap>, NoMe
     Ok(text)
 }
 
-/// The line of `summary`: how many entries and bytes were written.
+/// The line of `summary`: the numbers of entries and bytes that were written. Fails only if memory runs out.
 pub fn summary_line(heap: Heap, sizes: Sizes) -> Result<String<Heap>, NoMemory>
     ensures { IfOk result (λ text. string_bytes text ≡ summary_line sizes) }
 {
@@ -57,7 +57,8 @@ pub fn summary_line(heap: Heap, sizes: Sizes) -> Result<String<Heap>, NoMemory>
     Ok(text)
 }
 
-/// These lines, and after them the one that ends the report of every command that writes an archive: its sizes.
+/// These lines, and after them the last line of the report of every command that writes an archive: its sizes. Fails
+/// only if memory runs out.
 pub fn with_sizes(lines: String<Heap>, sizes: Sizes) -> Result<String<Heap>, NoMemory>
     ensures { IfOk result (λ text. string_bytes text ≡ string_bytes lines ++ archive_line sizes) }
 {

@@ -1,4 +1,4 @@
-//! The lines of the slices that answer under keys.
+//! The lines of the slices that answer for keys.
 ghost use Rattle.std.specs.Prelude.{◌≡◌, ◌↔◌, ◌++◌, All, Contains, IfOk, IsTrue, OnOk, string_bytes};
 ghost use Rattle.std.specs.List.{flat_map};
 ghost use Rattle.std.specs.List.Sorted.{IsSorted, IsStrictlySortedBy};
@@ -16,7 +16,7 @@ use memory::{Heap, NoMemory};
 use std::cmp::Ordering;
 use std::fmt;
 
-// A key under which no slice answers.
+// A key for which no slice answers.
 #[derive(Clone, Copy)]
 struct Absent(SliceKey);
 
@@ -32,14 +32,14 @@ impl fmt::Display for Absent {
     }
 }
 
-// Compares two rows by their keys, and under one key by their digests.
+// Compares two rows by their keys, and for one key by their digests.
 fn compare_rows(a: &FindRow, b: &FindRow) -> Ordering
     ensures { result ≡ slice_row_cmp a.now b.now }
 {
     compare_keys(&a.key, &b.key).then(a.digest.0[..].cmp(&b.digest.0[..]))
 }
 
-// Whether a row is in a state.
+// Whether a row has this state.
 fn is_in(state: FindState, row: FindRow) -> bool
     ensures is { IsTrue result ↔ (row.state ≡ state) }
     ensures key { IsKey row.key }
@@ -47,7 +47,7 @@ fn is_in(state: FindState, row: FindRow) -> bool
     row.state == state
 }
 
-// Whether one of these rows is of the slice of this one. It is found by halving.
+// Whether one of these rows is for the slice of this one. It is found by binary search.
 fn has_slice(rows: &[FindRow], row: FindRow) -> bool
     requires sorted { IsSorted slice_row_cmp rows.now }
     requires keyed { All (λ other. IsKey other.key) rows.now }
@@ -58,7 +58,7 @@ fn has_slice(rows: &[FindRow], row: FindRow) -> bool
         .is_ok()
 }
 
-// Whether one of these rows is under the key. It is found by halving.
+// Whether one of these rows has the key. It is found by binary search.
 fn has_key(rows: &[FindRow], key: SliceKey) -> bool
     requires sorted { IsSorted slice_row_cmp rows.now }
     requires keyed { All (λ row. IsKey row.key) rows.now }
@@ -69,7 +69,7 @@ fn has_key(rows: &[FindRow], key: SliceKey) -> bool
         .is_ok()
 }
 
-// The rows that are in a state, in the order of their slices.
+// The rows with a state, in the order of their slices.
 fn rows_in(heap: Heap, state: FindState, rows: &[FindRow]) -> Result<Vec<FindRow, Heap>, NoMemory>
     ensures exactly { IfOk result (λ kept.
         AreExactly row_key (λ row. Contains rows.now row × (row.state ≡ state)) kept.items) }
@@ -85,7 +85,7 @@ fn rows_in(heap: Heap, state: FindState, rows: &[FindRow]) -> Result<Vec<FindRow
     Ok(kept)
 }
 
-// Whether a row is of a slice that none of these retirements is of.
+// Whether a row is for a slice that none of these retirements covers.
 fn lives_beside(retired: &[FindRow], row: FindRow) -> bool
     requires sorted { IsSorted slice_row_cmp retired.now }
     requires keyed { All (λ other. IsKey other.key) retired.now }
@@ -109,7 +109,7 @@ fn live_rows(heap: Heap, pool: &[FindRow]) -> Result<Vec<FindRow, Heap>, NoMemor
     Ok(live)
 }
 
-// Whether a row is of a companion, or none of these companions is under its key.
+// Whether a row is for a companion, or none of these companions has its key.
 fn answers_beside(companions: &[FindRow], row: FindRow) -> bool
     requires sorted { IsSorted slice_row_cmp companions.now }
     requires keyed { All (λ other. IsKey other.key) companions.now }
@@ -119,8 +119,8 @@ fn answers_beside(companions: &[FindRow], row: FindRow) -> bool
     row.state == FindState::Dsym || !has_key(companions, row.key)
 }
 
-// Of live rows those of slices that answer.
-fn answering_entries(heap: Heap, live: &[FindRow]) -> Result<Vec<FindRow, Heap>, NoMemory>
+// The live rows of slices that answer.
+fn answering_live_rows(heap: Heap, live: &[FindRow]) -> Result<Vec<FindRow, Heap>, NoMemory>
     ensures { IfOk result (λ rows. AreExactly row_key (λ row. Contains live.now row
         × AnswersIn live.now row) rows.items) }
 {
@@ -140,13 +140,13 @@ fn answering_rows(heap: Heap, pool: &[FindRow]) -> Result<Vec<FindRow, Heap>, No
     ensures ascending { IfOk result (λ rows. IsStrictlySortedBy slice_row_cmp rows.items) }
 {
     let live = live_rows(heap.share(), pool)?;
-    let mut rows = answering_entries(heap, &live)?;
+    let mut rows = answering_live_rows(heap, &live)?;
     rows.sort_unstable_by(|a, b| compare_rows(a, b));
     rows.dedup_by(|a, b| compare_rows(a, b).is_eq());
     Ok(rows)
 }
 
-// The keys that no row is under.
+// The keys that no row has.
 fn keys_without(
     heap: Heap,
     rows: &[FindRow],
@@ -166,7 +166,7 @@ fn keys_without(
     Ok(absent)
 }
 
-// The keys that no row is under, each once, in the order of their bytes.
+// The keys that no row has, each once, in the order of their bytes.
 fn absent_keys(
     heap: Heap,
     rows: &[FindRow],
@@ -184,7 +184,7 @@ fn absent_keys(
     Ok(absent)
 }
 
-// Writes a line a key under which no slice answers.
+// Writes a line for each key for which no slice answers.
 fn push_absent(text: &mut String<Heap>, keys: &[SliceKey]) -> Result<(), NoMemory>
     ensures { OnOk result (string_bytes text.new
         ≡ string_bytes text.old ++ flat_map (λ key. line (absent_text key)) keys.now) }
@@ -196,8 +196,8 @@ fn push_absent(text: &mut String<Heap>, keys: &[SliceKey]) -> Result<(), NoMemor
     Ok(())
 }
 
-/// The lines of the slices that answer, as rows of one archive or several tell it, and after them of the keys under
-/// which none does. The rows may be in any order, and one may be there more than once.
+/// The lines of the slices that answer, by the rows of one or several archives, and after them of the keys for which
+/// none does. The rows may be in any order, and may be repeated. Fails only if memory runs out.
 pub fn slices_lines(
     heap: Heap,
     pool: &[FindRow],

@@ -9,11 +9,11 @@ use macho_symbols::SymbolFault;
 use std::fmt::{self, Display};
 use text_inputs::ScriptFault;
 
-/// A value of another crate, shown as this program prints it.
+/// A value of another crate, with its text for the report.
 #[derive(Clone, Copy, Debug, PartialEq, Eq)]
 pub struct Text<T>(pub T);
 
-// A fault's name, and in parentheses the number that it holds.
+// A fault's name, and its number in parentheses.
 #[derive(Clone, Copy)]
 struct Numbered<'a>(&'a str, u32);
 

@@ -1,4 +1,4 @@
--- The flaws that keep a line from having fields with one space between two.
+-- The flaws by which a line has no fields with one space between two.
 use Rattle.std.specs.Prelude.{ℕ, Bool, true, false, not, ◌==◌, nat_eq, if◌then◌else◌, List, [], ◌∷◌, Option, Some, None}
 use Rattle.std.specs.List.{list_any, starts_with}
 use Rattle.std.specs.Str.{is_utf8}
@@ -25,11 +25,11 @@ abbrev pub is_empty : Field → Bool
 is_empty [] = true
 is_empty (_ ∷ _) = false
 
--- whether a line has an empty part: two spaces stand together, or one at an end
+-- whether a line has an empty part: two adjacent spaces, or a space at an end
 abbrev pub has_empty_part : Line → Bool
 has_empty_part line = list_any is_empty (parts line)
 
--- what is wrong with a line, if anything of this is; an empty one has no flaw
+-- the flaw of a line, if it has one of these; an empty line has none
 abbrev pub line_flaw : Line → Option LineFlaw
 line_flaw [] = None
 line_flaw line =

@@ -1,4 +1,4 @@
-//! The word of an architecture.
+//! The text of an architecture.
 ghost use Rattle.std.specs.Prelude.{◌≡◌};
 ghost use Rattle.text_values.specs.Words.{arch_key_of, arch_of, arch_in_cpu_form};
 
@@ -41,7 +41,7 @@ impl fmt::Display for Spelled<ArchKey> {
     }
 }
 
-/// An architecture by its name, or as `cpu:` and its two numbers, of which the second has a clear high byte.
+/// An architecture by its name, or as `cpu:` and its two numbers; the high byte of the second is clear.
 impl Word for ArchKey {
     ghost form_of = { arch_of };
 
@@ -53,7 +53,7 @@ impl Word for ArchKey {
     }
 }
 
-// The key of which both numbers are there.
+// The architecture, if both numbers are there.
 fn arch_key(cputype: Option<u32>, cpusubtype: Option<u32>) -> Option<ArchKey>
     ensures { result ≡ arch_key_of cputype cpusubtype }
 {
@@ -63,7 +63,7 @@ fn arch_key(cputype: Option<u32>, cpusubtype: Option<u32>) -> Option<ArchKey>
     })
 }
 
-// An architecture as `cpu:` and its two numbers, of which the second has a clear high byte.
+// An architecture as `cpu:` and its two numbers; the high byte of the second is clear.
 fn read_cpu(text: &[u8]) -> Option<ArchKey>
     ensures { result ≡ arch_in_cpu_form text.now }
 {

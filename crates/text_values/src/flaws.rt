@@ -1,4 +1,4 @@
-//! What keeps a line from having fields with one space between two.
+//! The flaws by which a line has no fields with one space between two.
 
 ghost use Rattle.std.specs.Prelude.{◌≡◌};
 ghost use Rattle.std.specs.Str.{is_utf8};
@@ -6,7 +6,7 @@ ghost use Rattle.text_values.specs.Flaws.{has, has_empty_part, is_empty, line_fl
 
 use std::str;
 
-/// What is wrong with a line, whatever its fields are to be.
+/// The flaw of a line, whatever its fields should be.
 #[derive(Clone, Copy, Debug, PartialEq, Eq)]
 pub enum LineFlaw {
     /// It begins with the byte-order mark of UTF-8.
@@ -15,13 +15,13 @@ pub enum LineFlaw {
     Tab,
     /// It has a carriage return.
     CarriageReturn,
-    /// It is no UTF-8 text.
+    /// It is not UTF-8.
     NotText,
-    /// Two spaces stand together in it, or one at an end.
+    /// It has two adjacent spaces, or a space at an end.
     Spaces,
 }
 
-/// What is wrong with a line, if anything of this is: the first in the order of the flaws.
+/// The flaw of a line, if it has one of these: the first in the order of the flaws.
 pub fn line_flaw(line: &[u8]) -> Option<LineFlaw>
     ensures { result ≡ line_flaw line.now }
 {
@@ -59,7 +59,7 @@ fn is_text(line: &[u8]) -> bool
     }
 }
 
-// Whether nothing stands before, between or after the spaces of a line somewhere.
+// Whether a line has an empty part before, between or after its spaces.
 fn has_empty_part(line: &[u8]) -> bool
     ensures { result ≡ has_empty_part line.now }
 {

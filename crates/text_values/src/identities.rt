@@ -1,4 +1,4 @@
-//! The words of a UUID and of a digest.
+//! The texts of a UUID and of a digest.
 ghost use Rattle.std.specs.Prelude.{◌≡◌};
 ghost use Rattle.std.specs.Str.{IsUtf8};
 ghost use Rattle.hex.specs.Hex.{encode_lower};
@@ -32,7 +32,7 @@ impl Word for Digest {
     }
 }
 
-// Two hex digits a byte.
+// Two hex digits for each byte.
 fn digits_of(bytes: &[u8; 32]) -> [u8; 64]
     ensures digits { result ≡ encode_lower bytes.now }
     ensures utf8 { IsUtf8 result }

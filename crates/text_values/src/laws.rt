@@ -1,11 +1,11 @@
-//! What is printed is read back.
+//! Laws: a printed value is read back as the same value.
 ghost use Rattle.std.specs.Prelude.{◌≡◌, ◌<◌, ◌^◌, ℕ, List, All, Some, length};
 ghost use Rattle.uuid.specs.Text.{hyphenated_text, lower, parsed};
 ghost use Rattle.archive_core.specs.declared.keys.ArchKey.{ArchKey};
 ghost use Rattle.archive_core.specs.declared.keys.Digest.{Digest};
 ghost use Rattle.text_values.specs.Words.{address_of, address_text, arch_of, arch_text, digest_of, digest_text};
 
-/// An architecture of which the high byte of `cpusubtype` is clear, as in each key of a slice.
+/// An architecture with a clear high byte of `cpusubtype`, as in each key of a slice.
 pub fn arch_is_read_back()
     ensures { (arch : ArchKey) → arch.cputype < 2 ^ 32 → arch.cpusubtype < 2 ^ 24
         → arch_of (arch_text arch) ≡ Some arch }

@@ -1,15 +1,15 @@
-//! The words for architectures, UUIDs, digests and addresses: as they are printed, and as they are read.
+//! The texts of architectures, UUIDs, digests and addresses, printed and read.
 //!
-//! A [`Word`] is read from its text, in each of its forms. What is printed has one of these forms and is read back as
-//! the same, which [`laws`] says.
+//! A [`Word`] is read from its text, in each of its forms. A printed value has one of these forms and is read back as
+//! the same value ([`laws`]).
 //!
-//! - [`machine`]: the architectures that have a name, with their numbers;
-//! - `archs`: the word of an architecture;
-//! - `numbers`: hex digits, and the word of an address;
-//! - `identities`: the words of a UUID and of a digest;
-//! - `words`: what a word is;
-//! - `lines`: the lines of a file that count, and the fields in which its words stand;
-//! - `flaws`: what keeps a line from having such fields.
+//! - [`machine`]: the architectures with a name, and their numbers;
+//! - `archs`: the text of an architecture;
+//! - `numbers`: hex digits, and the text of an address;
+//! - `identities`: the texts of a UUID and of a digest;
+//! - `words`: a value with a text;
+//! - `lines`: the lines of a file that count, and their fields;
+//! - `flaws`: the flaws by which a line has no such fields.
 #![tactic(auto)]
 
 mod archs;

@@ -5,7 +5,7 @@ ghost use Rattle.text_values.specs.Lines.{counting, counts, fields_after, line_a
 
 use memory::{Heap, NoMemory};
 
-/// The lines of a file that count, each after the number of the lines before it.
+/// The lines of a file that count, each after the number of the lines before it. Fails only if memory runs out.
 pub fn lines_that_count(heap: Heap, bytes: &[u8]) -> Result<Vec<(usize, &[u8]), Heap>, NoMemory>
     requires { length bytes.now < 2 ^ 63 }
     ensures lines { IfOk result (λ lines. seen lines.items ≡ counting bytes.now) }
@@ -18,7 +18,7 @@ pub fn lines_that_count(heap: Heap, bytes: &[u8]) -> Result<Vec<(usize, &[u8]), 
         .collect(heap)
 }
 
-/// Whether a line counts: empty ones and those that begin with `#` are passed over.
+/// Whether a line counts: empty lines and those that begin with `#` are skipped.
 fn line_counts(line: &[u8]) -> bool
     ensures { result ≡ counts line.now }
 {
@@ -28,7 +28,7 @@ fn line_counts(line: &[u8]) -> bool
     }
 }
 
-/// The line of this number, counted from 1; an empty one where there is none.
+/// The line with this number, counted from 1; an empty one if there is none.
 pub fn line_at(bytes: &[u8], number: u64) -> &[u8]
     ensures { result.now ≡ line_at bytes.now number }
 {
@@ -38,14 +38,14 @@ pub fn line_at(bytes: &[u8], number: u64) -> &[u8]
     }
 }
 
-// The line after so many others.
+// The line after this number of lines.
 fn line_after(bytes: &[u8], others: usize) -> Option<&[u8]>
     ensures { option_map (λ line. line.now) result ≡ slice_get (lines bytes.now) others }
 {
     bytes.split(|byte| *byte == b'\n').nth(others)
 }
 
-/// The number of lines: one for each newline, and one more where bytes follow the last of them.
+/// The number of lines: one for each newline, and one more if bytes follow the last of them.
 pub fn number_of_lines(bytes: &[u8]) -> u64
     requires { length bytes.now < 2 ^ 64 }
     ensures { result ≡ line_count bytes.now }
@@ -57,7 +57,7 @@ pub fn number_of_lines(bytes: &[u8]) -> u64
     }
 }
 
-/// The first field of a text, and what stands after the space after it, if one follows.
+/// The first field of a text, and the text after the next space, if there is one.
 pub fn cut_field(text: &str) -> (&str, Option<&str>)
     ensures { result.0.now ∷ fields_after (option_map (λ rest. rest.now) result.1) ≡ parts text.now }
 {

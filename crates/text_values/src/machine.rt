@@ -1,4 +1,4 @@
-//! The architectures that have a name, by their numbers in mach/machine.h.
+//! The architectures with a name, by their numbers in mach/machine.h.
 ghost use Rattle.std.specs.Prelude.{◌≡◌, option_map};
 ghost use Rattle.text_values.specs.Words.{arch_named, name_of};
 
@@ -10,7 +10,7 @@ pub const CPU_TYPE_X86_64: u32 = 0x0100_0007;
 /// Every 64-bit Intel processor.
 pub const CPU_SUBTYPE_X86_64_ALL: u32 = 3;
 
-/// 64-bit Intel processors from Haswell on.
+/// 64-bit Intel processors since Haswell.
 pub const CPU_SUBTYPE_X86_64_H: u32 = 8;
 
 /// `cputype` of 64-bit ARM processors.
@@ -22,14 +22,14 @@ pub const CPU_SUBTYPE_ARM64_ALL: u32 = 0;
 /// 64-bit ARM processors with pointer authentication.
 pub const CPU_SUBTYPE_ARM64E: u32 = 2;
 
-/// An architecture that has a name.
+/// An architecture with a name.
 #[derive(Clone, Copy, Debug, PartialEq, Eq)]
 pub struct NamedArch {
     pub name: &'static str,
     pub arch: ArchKey,
 }
 
-/// The architectures that have a name.
+/// The architectures with a name.
 pub const NAMED_ARCHS: [NamedArch; 4] = [
     NamedArch {
         name: "x86_64",
@@ -61,7 +61,7 @@ pub const NAMED_ARCHS: [NamedArch; 4] = [
     },
 ];
 
-/// The architecture of a name.
+/// The architecture with a name.
 pub(crate) fn arch_named(name: &str) -> Option<ArchKey>
     ensures { result ≡ arch_named name.now }
 {

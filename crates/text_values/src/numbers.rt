@@ -1,4 +1,4 @@
-//! Hex digits, and the word of an address. Digits are printed in lower case, and read in either case.
+//! Hex digits, and the text of an address. Digits are printed in lower case, and read in either case.
 ghost use Rattle.std.specs.Prelude.{◌≡◌, ◌<◌, ◌≤◌, ◌^◌, IfSome, length};
 ghost use Rattle.text_values.specs.Words.{number_of, without_0x};
 
@@ -39,7 +39,7 @@ impl fmt::Display for EightDigits {
     }
 }
 
-/// An address, or where an image was loaded: an optional `0x`, then one hex digit to sixteen.
+/// An address, or load address: an optional `0x`, then one to sixteen hex digits.
 impl Word for u64 {
     ghost use Rattle.text_values.specs.Words.{address_of};
 
@@ -65,7 +65,7 @@ fn bare_digits(text: &[u8]) -> &[u8]
     }
 }
 
-// The number that hex digits spell.
+// The number in hex digits.
 fn read_digits(digits: &[u8]) -> Option<u64>
     requires { length digits.now ≤ 16 }
     ensures number { result ≡ number_of digits.now }
@@ -79,7 +79,7 @@ fn read_digits(digits: &[u8]) -> Option<u64>
     Some(number)
 }
 
-// The number that eight hex digits spell.
+// The number in eight hex digits.
 pub(crate) fn read_eight_digits(digits: &[u8]) -> Option<u32>
     requires { length digits.now ≡ 8 }
     ensures { result ≡ number_of digits.now }

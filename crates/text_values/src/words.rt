@@ -1,18 +1,18 @@
-//! What a word is.
+//! Values with a text.
 ghost use Rattle.std.specs.Prelude.{◌≡◌};
 
-/// A value that a word spells.
+/// A value that is read from a text.
 pub trait Word: Sized {
     ghost use Rattle.std.specs.Prelude.{List, Option, ℕ};
 
-    // What a text of one of the value's forms spells.
+    // The value of a text, if the text has one of the value's forms.
     ghost form_of: { List ℕ → Option Self };
 
-    /// The value of a word that has one of the forms.
+    /// Reads the value of a text. `None` if the text has none of the forms.
     fn read(text: &str) -> Option<Self>
         ensures { result ≡ form_of text.now };
 }
 
-/// A value, printed as the word that spells it.
+/// A value, printed in its text form.
 #[derive(Clone, Copy, Debug, PartialEq, Eq)]
 pub struct Spelled<T>(pub T);

@@ -1,5 +1,5 @@
-//! What is called of the system for OUT, one function for each call: it calls what it notes, which a person sees by
-//! reading this file. Nobody else in this crate has these files; inputs have their own.
+//! The calls to the system for OUT, one function for each. Each makes the call that it notes: a person sees that by
+//! reading this file. No other module of this crate calls these files; inputs have their own.
 
 use super::{Opened, Own, System, SystemCalls};
 use crate::file_calls::FileCalls;

@@ -1,4 +1,4 @@
-use Rattle.archive_exchange.proofs.Telling.{telling}
+use Rattle.archive_exchange.proofs.EntriesDiffer.{telling}
 use Rattle.archive_exchange.proofs.Deltas.{lifted}
 use Rattle.archive_exchange.proofs.model_laws.asker_is_above_replier.Goals as goal
 

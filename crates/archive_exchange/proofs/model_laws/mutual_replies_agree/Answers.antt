@@ -1,4 +1,4 @@
-use Rattle.archive_exchange.proofs.Telling.{telling}
+use Rattle.archive_exchange.proofs.EntriesDiffer.{telling}
 use Rattle.archive_exchange.proofs.Agreed.{agreed}
 use Rattle.archive_exchange.proofs.model_laws.mutual_replies_agree.Goals as goal
 

@@ -2,7 +2,7 @@ use Rattle.std.proofs.Common.{[], false}
 use Rattle.std.proofs.lemmas.Result.{err_from_is_err_and}
 use Rattle.archive_merge.specs.Sides.{sides_of}
 use Rattle.archive_merge.proofs.Starts.{blamed_later, stops_later}
-use Rattle.archive_merge.proofs.Tells.{tells_as}
+use Rattle.archive_merge.proofs.ArrivalTurns.{tells_as}
 use Rattle.archive_merge.proofs.arrival_merge.merge_taken_with_arrivals.Goals as goal
 
 pub returns-in_err-merge_records_with_arrivals-clause-leaves : goal.returns-in_err-merge_records_with_arrivals-clause-leaves

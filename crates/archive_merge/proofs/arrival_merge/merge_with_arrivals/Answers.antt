@@ -2,7 +2,7 @@ use Rattle.std.proofs.Common.{Ok, Err}
 use Rattle.std.proofs.lemmas.Result.{err_from_is_err_and}
 use Rattle.byte_device.specs.Devices.{stream}
 use Rattle.archive_merge.proofs.Merges.{merges}
-use Rattle.archive_merge.proofs.Tellings.{merged_telling, arrivals_of_texts, withdraws_of_texts}
+use Rattle.archive_merge.proofs.ArrivalsAtEnd.{merged_telling, arrivals_of_texts, withdraws_of_texts}
 use Rattle.archive_merge.proofs.arrival_merge.merge_with_arrivals.Goals as goal
 
 pub returns-in_err-sizes-clause-merges : goal.returns-in_err-sizes-clause-merges

@@ -2,7 +2,7 @@ use Rattle.std.proofs.Common.{Option, refl, sym, subst}
 use Rattle.std.specs.Prelude.{IsSome}
 use Rattle.archive_merge.specs.declared.arrivals.Arrival.{Arrival}
 use Rattle.archive_merge.specs.Sides.{sides_of}
-use Rattle.archive_merge.proofs.Tells.{no_room}
+use Rattle.archive_merge.proofs.ArrivalTurns.{no_room}
 use Rattle.archive_merge.proofs.arrival_merge.push_arrival.Goals as goal
 
 pub returns-in-Err-clause-stops : goal.returns-in-Err-clause-stops

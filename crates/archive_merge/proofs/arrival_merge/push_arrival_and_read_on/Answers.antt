@@ -1,5 +1,5 @@
 use Rattle.archive_merge.specs.Sides.{sides_of}
-use Rattle.archive_merge.proofs.Tells.{tells_as, told_or_stopped}
+use Rattle.archive_merge.proofs.ArrivalTurns.{tells_as, told_or_stopped}
 use Rattle.archive_merge.proofs.arrival_merge.push_arrival_and_read_on.Goals as goal
 
 pub returns-clause-telling : goal.returns-clause-telling

@@ -1,6 +1,6 @@
 use Rattle.archive_merge.specs.Sides.{side_with, sides_of}
 use Rattle.archive_merge.proofs.Starts.{left_stops, left_read}
-use Rattle.archive_merge.proofs.Tells.{tells_left_read}
+use Rattle.archive_merge.proofs.ArrivalTurns.{tells_left_read}
 use Rattle.archive_merge.proofs.merging.read_left.Goals as goal
 
 pub returns-in-Ok-clause-merging : goal.returns-in-Ok-clause-merging

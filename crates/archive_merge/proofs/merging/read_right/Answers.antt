@@ -1,7 +1,7 @@
 use Rattle.byte_device.specs.Devices.{stream}
 use Rattle.archive_merge.specs.Sides.{side_with, sides_of}
 use Rattle.archive_merge.proofs.Starts.{right_stops, right_read, told_right}
-use Rattle.archive_merge.proofs.Tells.{tells_right_read}
+use Rattle.archive_merge.proofs.ArrivalTurns.{tells_right_read}
 use Rattle.archive_merge.proofs.merging.read_right.Goals as goal
 
 pub returns-in-Ok-clause-merging : goal.returns-in-Ok-clause-merging

@@ -1,7 +1,7 @@
 use Rattle.std.proofs.lemmas.Result.{err_from_is_err_and}
 use Rattle.archive_merge.specs.Sides.{sides_of}
 use Rattle.archive_merge.proofs.MergeSteps.{full_stops, passed, write_stops, wrote}
-use Rattle.archive_merge.proofs.Tells.{tells_passed, tells_wrote}
+use Rattle.archive_merge.proofs.ArrivalTurns.{tells_passed, tells_wrote}
 use Rattle.archive_merge.proofs.merging.take_turn.Goals as goal
 
 pub returns-then-is_covered-clause-merging : goal.returns-then-is_covered-clause-merging

@@ -1,7 +1,7 @@
 use Rattle.std.proofs.Common.{inl, refl}
 use Rattle.byte_device.proofs.Known.{Appends-none, Consumes-none}
 use Rattle.archive_merge.proofs.Starts.{magic_read, stops_start}
-use Rattle.archive_merge.proofs.Tells.{tells_start}
+use Rattle.archive_merge.proofs.ArrivalTurns.{tells_start}
 use Rattle.archive_merge.proofs.streams.begin_both.Goals as goal
 
 pub returns-in-Err-put-clause-telling : goal.returns-in-Err-put-clause-telling

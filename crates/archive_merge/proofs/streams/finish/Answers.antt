@@ -1,6 +1,6 @@
 use Rattle.archive_merge.specs.Sides.{sides_of}
 use Rattle.archive_merge.proofs.Starts.{end_stops}
-use Rattle.archive_merge.proofs.Tells.{merging_end, tells_end}
+use Rattle.archive_merge.proofs.ArrivalTurns.{merging_end, tells_end}
 use Rattle.archive_merge.proofs.streams.finish.Goals as goal
 
 pub returns-in-Ok-clause-leaves : goal.returns-in-Ok-clause-leaves

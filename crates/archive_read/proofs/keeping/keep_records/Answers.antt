@@ -2,7 +2,7 @@ use Rattle.std.proofs.Common.{◌∙◌, sym, ap, subst, inr, refl, [], ◌∷�
 use Rattle.archive_records.specs.Kind.{IsItemOf, kind_of}
 use Rattle.archive_records.specs.Reader.{DropsLast, HasRead, MakeThemselves, after_taken}
 use Rattle.archive_records.specs.Text.{taken_of}
-use Rattle.archive_records.proofs.Taken.{taken_none, taken_push, taken_pass, made_taken}
+use Rattle.archive_records.proofs.TakenRecords.{taken_none, taken_push, taken_pass, made_taken}
 use Rattle.archive_records.proofs.RecordSteps.{HasRead-grows, HasReadAll-grows, Stopped-fails, Stopped-unkept}
 use Rattle.archive_read.proofs.keeping.keep_records.Goals as goal
 
@@ -45,8 +45,8 @@ keep-requires-clause-record g c =
     let step = rw (c.in-Ok-Item.field-0-is, c.as_ref.ensures.value) at c.in-Ok-Item.ensures in
     subst (λ k. IsItemOf k c.advance_after.new.self.last) (ap kind_of c.records.invariant.file ∙ c.requires.file) step.0.item
 
-pub returns-in-Err-settle-clause-stopped : goal.returns-in-Err-settle-clause-stopped
-returns-in-Err-settle-clause-stopped g c =
+pub returns-in-Err-add_last_slice-clause-stopped : goal.returns-in-Err-add_last_slice-clause-stopped
+returns-in-Err-add_last_slice-clause-stopped g c =
     let step = rw (c.in-Ok-Item.field-0-is, c.as_ref.ensures.value) at c.in-Ok-Item.ensures in
     rw (c.out_of_memory.ensures, c.offset-offset.ensures)
     (λ a start.

@@ -13,6 +13,6 @@ returns g c = λ start o content asked.
     let passed = c.in_ok-answer_passed.ensures in
     let told = asked_last (g.Q.Questions.left now) (λ o. g.Q.Questions.answered start o now) held (listing o)
     (passed.asked start (listing o) (asked_before (g.Q.Questions.left before)
-    (λ o. g.Q.Questions.answered start o before) _ (listing o) None (rw c.in_ok-settle.ensures.kept asked)))
+    (λ o. g.Q.Questions.answered start o before) _ (listing o) None (rw c.in_ok-add_last_slice.ensures.kept asked)))
     (subst IsMade (content_is o) content.itself, InOrder-listing o content) passed.passed in
     (told.0, subst (λ (p : Operations). g.Q.Questions.answered start p now) (sym (content_is o)) told.1)

@@ -20,7 +20,7 @@ pub returns-in-Ok : goal.returns-in-Ok
 returns-in-Ok g c =
     let read = c.in_ok-picked.ensures in
     let picks = g.S.Selects.picked c.args.select.now in
-    finished Archive _ (λ (_ : Unit {0}) (o : Operations). g.A.Join.content c.settle.new.self.archive ≡ part o picks)
+    finished Archive _ (λ (_ : Unit {0}) (o : Operations). g.A.Join.content c.add_last_slice.new.self.archive ≡ part o picks)
     g.R.Source.left g.R.Source.failures c.args.r.now c.keep_whole.new.r c.in_ok-picked.picked tt read.read read.at_end
     read.reader
     (λ o is kept. c.in-Ok.ensures.kept ∙ kept.1 ∙ ap (λ (p : Operations). part p picks) (sym (content_is o)))

@@ -2,7 +2,7 @@ use Rattle.std.proofs.Common.{◌∙◌, sym, ap, subst, arith, inr, refl, [], �
 use Rattle.archive_records.specs.Kind.{IsItemOf, kind_of}
 use Rattle.archive_records.specs.Reader.{DropsLast, MakeThemselves}
 use Rattle.archive_records.specs.Text.{taken_of}
-use Rattle.archive_records.proofs.Taken.{taken_none, taken_push, taken_pass, made_taken}
+use Rattle.archive_records.proofs.TakenRecords.{taken_none, taken_push, taken_pass, made_taken}
 use Rattle.archive_records.proofs.RecordSteps.{HasRead-grows, HasReadAll-grows, Stopped-fails, Stopped-unkept, step-never_trailing}
 use Rattle.archive_records.proofs.records.take_records.Goals as goal
 

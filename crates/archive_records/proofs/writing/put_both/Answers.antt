@@ -8,4 +8,5 @@ returns-in_err-done g c =
     (stops_before _ _ _ _ _ _ c.args.head.now c.args.body.now c.in_err-done.ensures)
 
 pub returns : goal.returns
-returns g c = puts_then _ _ _ _ _ _ _ _ c.args.head.now c.args.body.now c.put-2.result c.in_ok-done.ensures c.put-2.ensures
+returns g c =
+    puts_then g.W.Sink.held g.W.Sink.failures _ c.args.w.now _ _ _ _ c.args.head.now c.args.body.now c.put-2.result c.in_ok-done.ensures c.put-2.ensures

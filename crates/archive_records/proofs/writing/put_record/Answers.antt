@@ -8,10 +8,12 @@ pub returns-in-Admit-clause-puts : goal.returns-in-Admit-clause-puts
 returns-in-Admit-clause-puts g c =
     let is = head_and_slice c.admission_head.result c.bytes.result.now c.in-Admit.slice c.admission_head.ensures.head
     c.bytes.ensures.bytes ∙ sym (ap borrowed_bytes c.in-Admit.is) in
-    puts_along _ _ _ _ _ _ _ _ c.put_both.result is c.put_both.ensures
+    puts_along g.W.Sink.held g.W.Sink.failures _ c.args.w.now _ _ _ _ c.put_both.result is c.put_both.ensures
 
 pub returns-in-Retire-clause-puts : goal.returns-in-Retire-clause-puts
-returns-in-Retire-clause-puts g c = puts_along _ _ _ _ _ _ _ _ c.put.result (c.retirement_bytes.ensures ∙ sym (ap borrowed_bytes c.in-Retire.is)) c.put.ensures
+returns-in-Retire-clause-puts g c =
+    puts_along g.W.Sink.held g.W.Sink.failures _ c.args.w.now _ _ _ _ c.put.result
+    (c.retirement_bytes.ensures ∙ sym (ap borrowed_bytes c.in-Retire.is)) c.put.ensures
 
 pub put_both-requires : goal.put_both-requires
 put_both-requires g c =

@@ -14,5 +14,6 @@ pub returns-clause-writes : goal.returns-clause-writes
 returns-clause-writes g c =
     let o = g.A.Join.content c.args.archive.now in
     subst (λ n. Writes g.W.Sink.held g.W.Sink.failures c.args.w.now c.put_end.new.w n (written o) c.put_end.result) c.len.ensures.len
-    (ends_text _ _ _ _ _ _ _ _ (written_parts o c.len.result c.len.ensures.len) c.in_ok-done.done c.put_end.result
+    (ends_text g.W.Sink.held g.W.Sink.failures c.args.w.now _ _ _ _ _
+    (written_parts o c.len.result c.len.ensures.len) c.in_ok-done.done c.put_end.result
     c.in_ok-done.ensures.puts c.put_end.ensures.puts c.put_end.ensures.records)

@@ -20,5 +20,6 @@ returns g c =
     let records = c.in_ok-front.ensures.records in
     subst (λ n. Writes g.W.Sink.held g.W.Sink.failures c.args.w.now c.put_end.new.w n (written (delta o s))
     c.put_end.result) (delta_count o s front.records records)
-    (ends_text _ _ _ _ _ _ _ _ (delta_parts o s front.records records) front.bytes c.put_end.result
+    (ends_text g.W.Sink.held g.W.Sink.failures c.args.w.now _ _ _ _ _
+    (delta_parts o s front.records records) front.bytes c.put_end.result
     c.in_ok-front.ensures.puts c.put_end.ensures.puts c.put_end.ensures.records)

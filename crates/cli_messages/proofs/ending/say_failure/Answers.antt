@@ -1,6 +1,6 @@
 use Rattle.cli_arguments.specs.LineView.{line_view}
 use Rattle.command_common.specs.Outputs.{writer}
-use Rattle.cli_messages.proofs.Helping.{without_help}
+use Rattle.cli_messages.proofs.SecondLines.{without_help}
 use Rattle.cli_messages.proofs.ending.say_failure.Goals as goal
 
 pub returns-in_default : goal.returns-in_default

@@ -13,26 +13,26 @@ pub returns-in_err-heap : goal.returns-in_err-heap
 returns-in_err-heap g c = unbegun (λ notes. notes.items) _ _ _ c.from_residual.result c.from_residual.ensures.1
     (none_asked _ _) (none_called _ _ c.requires.files.6 c.requires.files.5) refl refl
 
-pub returns-in_err-begin : goal.returns-in_err-begin
-returns-in_err-begin g c = unbegun (λ notes. notes.items) _ _ _ c.from_residual-in_err-begin.result
-    c.from_residual-in_err-begin.ensures.1 (0, c.begin.ensures.asked ∙ sym (append-nil _))
-    (none_called _ _ c.begin.ensures.published c.begin.ensures.calls) refl refl
+pub returns-in_err-begin_out : goal.returns-in_err-begin_out
+returns-in_err-begin_out g c = unbegun (λ notes. notes.items) _ _ _ c.from_residual-in_err-begin_out.result
+    c.from_residual-in_err-begin_out.ensures.1 (0, c.begin_out.ensures.asked ∙ sym (append-nil _))
+    (none_called _ _ c.begin_out.ensures.published c.begin_out.ensures.calls) refl refl
 
 pub returns-in_err-inputs : goal.returns-in_err-inputs
 returns-in_err-inputs g c = unbegun (λ notes. notes.items) _ _ _ c.from_residual-in_err-inputs.result
-    c.from_residual-in_err-inputs.ensures.1 (first_from _ _ _ _ c.begin.ensures.asked c.inputs_for.ensures.first)
-    (none_called _ _ (ap (λ out. out.target.published) c.inputs_for.ensures.out ∙ c.begin.ensures.published)
-    (ap (λ out. out.draft.calls.entries) c.inputs_for.ensures.out ∙ c.begin.ensures.calls)) refl refl
+    c.from_residual-in_err-inputs.ensures.1 (first_from _ _ _ _ c.begin_out.ensures.asked c.inputs_for.ensures.first)
+    (none_called _ _ (ap (λ out. out.target.published) c.inputs_for.ensures.out ∙ c.begin_out.ensures.published)
+    (ap (λ out. out.draft.calls.entries) c.inputs_for.ensures.out ∙ c.begin_out.ensures.calls)) refl refl
 
 pub returns : goal.returns
 returns g c =
     let before = c.inputs_for.new.files.out in
     let same = c.inputs_for.ensures.out in
     let untouched : stage_of before.draft.state ≡ Untouched =
-    ap (λ out. stage_of out.draft.state) same ∙ c.begin.ensures.untouched in
-    let uncalled : before.draft.calls.entries ≡ [] = ap (λ out. out.draft.calls.entries) same ∙ c.begin.ensures.calls in
-    let unfailed : before.draft.failures ≡ 0 = ap (λ out. out.draft.failures) same ∙ c.begin.ensures.unfailed in
-    let unpublished : before.target.published ≡ None = ap (λ out. out.target.published) same ∙ c.begin.ensures.published in
+    ap (λ out. stage_of out.draft.state) same ∙ c.begin_out.ensures.untouched in
+    let uncalled : before.draft.calls.entries ≡ [] = ap (λ out. out.draft.calls.entries) same ∙ c.begin_out.ensures.calls in
+    let unfailed : before.draft.failures ≡ 0 = ap (λ out. out.draft.failures) same ∙ c.begin_out.ensures.unfailed in
+    let unpublished : before.target.published ≡ None = ap (λ out. out.target.published) same ∙ c.begin_out.ensures.published in
     let done = c.execute_on-ended.new.out in
     let last = c.discard.new.self in
     let path = option_map string_bytes before.draft.path in
@@ -68,21 +68,21 @@ returns g c =
       begun = before;
       done = done;
       ended = c.execute_on-ended.result;
-      path_is = rw (c.inputs_for.ensures.compared, same) c.in_ok-begin.ensures.path;
+      path_is = rw (c.inputs_for.ensures.compared, same) c.in_ok-begin_out.ensures.path;
       replaces_is = λ some.
-          ap (λ out. out.draft.replaces) same ∙ c.in_ok-begin.ensures.rule some ∙ c.replace_rule.ensures;
+          ap (λ out. out.draft.replaces) same ∙ c.in_ok-begin_out.ensures.rule some ∙ c.replace_rule.ensures;
       begun_is = begun;
       begun_unfailed = unfailed;
       nothing_published = none_before;
       asked = c.in_ok-inputs.ensures.asked
-          ∙ ap (λ asked. asked ++ inputs_of (line_view c.args.line.now)) c.begin.ensures.asked;
+          ∙ ap (λ asked. asked ++ inputs_of (line_view c.args.line.now)) c.begin_out.ensures.asked;
       before = inputs_view c.in_ok-inputs.inputs;
       behind = inputs_view c.execute_on-ended.new.inputs;
       noted = noted;
       plan = c.args.plan.now;
       carried = carried;
       notes_are = alike;
-      outcome = carried_outcome _ _ _ _ _ _ _ _ _ _ carried;
+      outcome = carried_outcome carried;
       published = λ text is.
           let there = published_there path rule done.target.published text
           (subst (λ held. Appends held (published_account done.target.published) text) begun is.published) in

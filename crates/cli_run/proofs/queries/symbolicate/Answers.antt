@@ -22,7 +22,7 @@ returns-in_err-check_pairs g c =
     let refused = err_from_is_err_and c.from_residual.result c.from_residual.ensures.1 in
     rw (refused.1, refused.2) (alone_refused g.S.Source.left whole g.S.Source.failures failures g.P.Sink.held
     g.P.Sink.failures c.args.archives.now c.args.indexes.now _ _ _ _ c.in_err-check_pairs.ensures.other
-    (symbolicate_by _ _ _ _ _ _ _ _ some))
+    (symbolicate_by _ _ _ c.args.key.now c.args.load c.args.lines c.args.slices c.args.addresses.now some))
 
 pub returns : goal.returns
 returns g c =
@@ -32,6 +32,7 @@ returns g c =
     let after = c.run_symbolicate-2.new.evidence in
     let ends = paired_kept g.S.Source.left whole g.S.Source.failures failures c.args.archives.now after.archives.now
     c.args.indexes.now after.indexes.now _ _ _ _ c.in_ok-check_pairs.ensures.same kept.3 kept.2
-    (symbolicate_by _ _ _ _ _ _ _ _ (some_read whole failures c.args.indexes.now after.indexes.now kept.2
+    (symbolicate_by _ _ _ c.args.key.now c.args.load c.args.lines c.args.slices c.args.addresses.now
+    (some_read whole failures c.args.indexes.now after.indexes.now kept.2
     (not_none c.args.indexes.now c.if-is_empty.ensures))) c.run_symbolicate-2.ensures.ends in
     search rules

@@ -15,7 +15,7 @@ others-preserved g c =
     let lt : c.others.index < length c.args.others.now = omega arith in
     let is = same_at c.others.others c.args.others.now c.others.index c.index-others-index.result c.others.invariant.rest c.index-others-index.is in
     record {
-      added = added_more _ _ _ _ _ _ _ _ got.content (one_more _ _ _ _ _ _ _ lt c.others.auto.others is)
+      added = added_more _ _ _ _ _ c.args.found _ _ got.content (one_more _ _ _ _ _ _ _ lt c.others.auto.others is)
           c.others.invariant.added got.is_content (rw (← c.index-others-index.is) at got.text) got.is_true;
       unfailed = unfailed_more _ _ _ _ _ _ _ lt c.others.auto.others is c.others.invariant.unfailed
           (rw (← c.index-others-index.is) at c.in_ok-now.ensures.unfailed);

@@ -1,7 +1,7 @@
 use Rattle.std.proofs.Common.{◌∙◌, ap, subst, arith, refl, [], ◌∷◌, ◌++◌}
 use Rattle.archive_records.specs.Kind.{IsItemOf, kind_of}
 use Rattle.archive_records.proofs.Puts.{few_missing}
-use Rattle.archive_records.proofs.Taken.{taken_none, taken_push, taken_pass}
+use Rattle.archive_records.proofs.TakenRecords.{taken_none, taken_push, taken_pass}
 use Rattle.archive_records.proofs.RecordSteps.{HasRead-grows, HasReadAll-grows, Stopped-fails}
 use Rattle.command_write.proofs.Unnamed.{copied_in, copied_more, copied_to, copied_within}
 use Rattle.command_write.proofs.copying.copy_records.Goals as goal

@@ -25,5 +25,5 @@ index-requires g c =
 
 pub returns : goal.returns
 returns g c =
-    retired _ _ _ _ _ _ _ _ (rw c.retirement.ensures.is at c.in_ok-sizes.ensures)
+    retired c.args.key.now c.args.digest.now _ _ _ _ _ _ (rw c.retirement.ensures.is at c.in_ok-sizes.ensures)
     (λ x e. c.is_new.ensures ∙ ap is_new (rw e at c.index.ensures))

@@ -5,7 +5,7 @@ use Rattle.dwarf_frame_changes.proofs.unit_by_unit.by_program.Goals as goal
 
 pub units-preserved : goal.units-preserved
 units-preserved c =
-    let unit : UnitBoundaries = record { program = c.program_at.result; place = c.in-Some.place; boundaries = c.sorted_once.result } in
+    let unit : UnitBoundaries = record { program = c.program_offset_at.result; place = c.in-Some.place; boundaries = c.sorted_once.result } in
     subst (λ (xs : List UnitBoundaries). AreListed c.args.by_unit c.take_unit.new.by_unit xs) (sym c.in_ok-push.ensures.items)
     (listed_more c.args.by_unit c.units.by_unit c.take_unit.new.by_unit c.units.all.items unit c.in-Some.list c.units.invariant
     c.in-Some.ensures.taken c.in-Some.ensures.gone c.in-Some.ensures.others c.sorted_once.ensures.rising c.sorted_once.ensures.same)

@@ -7,12 +7,12 @@ use Rattle.macho_symbols.proofs.SweepLemmas.{above_from, contained, first_is_one
 use Rattle.macho_symbols.proofs.sweep.note_up_to.Goals as goal
 use Rattle.macho_symbols.proofs.sweep.note_up_to.Goals.{then-candidate-address, else-candidate-address}
 
-pub note-requires-clause-some : goal.note-requires-clause-some
-note-requires-clause-some c =
+pub note_candidate-requires-clause-some : goal.note_candidate-requires-clause-some
+note_candidate-requires-clause-some c =
     (c.requires.numbered c.in-Some.candidate (contained c.args.candidates.now c.noting.index c.in-Some.candidate c.in-Some.ensures.0)).0
 
-pub note-requires-clause-within : goal.note-requires-clause-within
-note-requires-clause-within c =
+pub note_candidate-requires-clause-within : goal.note_candidate-requires-clause-within
+note_candidate-requires-clause-within c =
     omega (
       arith,
       (c.requires.numbered c.in-Some.candidate
@@ -31,7 +31,7 @@ noting-preserved c =
     let named = c.requires.numbered k (contained cs c.noting.index k at) in
     record {
       within = omega (arith, slice_get_within cs c.noting.index k at);
-      firsts = subst (AreFirstsOf c.args.names.now cs (c.noting.index + 1)) (sym c.note.ensures)
+      firsts = subst (AreFirstsOf c.args.names.now cs (c.noting.index + 1)) (sym c.note_candidate.ensures)
           (firsts_noted c.args.names.now cs c.noting.index c.noting.firsts k at named.0
           (omega (arith, named.1, c.noting.auto.firsts)) c.noting.invariant.firsts);
       below = λ up. up_to_noted cs c.noting.index c.args.address k at c.in-Some.ensures.1 (c.noting.invariant.below up);

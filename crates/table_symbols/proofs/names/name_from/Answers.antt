@@ -13,9 +13,9 @@ returns-then-part-n-clause-read g c = record {
       c.in_ok-read.ensures.read.says text (c.pieces.invariant.whole ∙ is) all
       (c.pieces.invariant.keeps text all is pages) ∙ ap (λ k. take k (drop (c.args.first + c.pieces.at) all)) long
       ∙ part_stands all strings c.args.first c.pieces.at n stands within in
-      piece_last strings c.read.new.buf c.pieces.name.items c.push_all.new.name.items c.before_nul-part.result.now _
+      piece_last strings c.read.new.buf c.pieces.name.items c.push_bytes.new.name.items c.before_nul-part.result.now _
       c.pieces.at n came within c.before_nul-part.ensures c.if-part-n.true
-      c.in_ok-push_all.ensures.pushed (c.pieces.invariant.came text all strings is pages stands size);
+      c.in_ok-push_bytes.ensures.pushed (c.pieces.invariant.came text all strings is pages stands size);
   keeps = c.in_ok-read.ensures.read.keeps ∙ c.pieces.invariant.whole;
   counts = c.in_ok-read.ensures.read.counts ∙ c.pieces.invariant.unfailed;
 }
@@ -34,7 +34,7 @@ pieces-preserved g c = record {
       c.in_ok-read.ensures.read.says text (c.pieces.invariant.whole ∙ is) all
       (c.pieces.invariant.keeps text all is pages) ∙ ap (λ k. take k (drop (c.args.first + c.pieces.at) all)) long
       ∙ part_stands all strings c.args.first c.pieces.at n stands within in
-      piece_more strings c.read.new.buf c.pieces.name.items c.push_all.new.name.items c.before_nul-part.result.now _
+      piece_more strings c.read.new.buf c.pieces.name.items c.push_bytes.new.name.items c.before_nul-part.result.now _
       c.pieces.at n came within c.before_nul-part.ensures c.if-part-n.false
-      c.in_ok-push_all.ensures.pushed (c.pieces.invariant.came text all strings is pages stands size);
+      c.in_ok-push_bytes.ensures.pushed (c.pieces.invariant.came text all strings is pages stands size);
 }

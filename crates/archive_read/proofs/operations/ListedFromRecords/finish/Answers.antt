@@ -1,4 +1,4 @@
-use Rattle.archive_records.proofs.Listed.{one_list}
+use Rattle.archive_records.proofs.OperationRecords.{one_list}
 use Rattle.archive_read.proofs.operations.ListedFromRecords.finish.Goals as goal
 
 pub returns : goal.returns

@@ -48,7 +48,7 @@ returns c =
       ranges = on_ok_weaker c.push_entry.result (λ more. ranges_added asked u c.args.left.now entry read _ _ _ _
           c.read-entry.ensures c.scope_ranges-own.ensures.ranges kept more) c.push_entry.ensures.ranges;
       taken = on_ok_weaker c.push_entry.result (λ added. takes_added (sections_view c.args.info.now.sections)
-          (unit_view c.args.unit.now) asked u c.args.left.now c.args.depth entry read _ _ _ _ _ _ _ _
+          (unit_view c.args.unit.now) asked u c.args.left.now c.args.depth entry read
           c.read-entry.ensures c.scope_ranges-own.ensures.ranges c.close.ensures.closed added)
           c.push_entry.ensures.added;
       named = c.push_entry.ensures.named;

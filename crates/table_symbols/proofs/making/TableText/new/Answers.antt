@@ -15,7 +15,9 @@ returns c =
     let counted : c.len.result ≡ length sections = search rules in
     let long : c.len-2.result ≡ length c.in_ok-rows.rows.items = search rules in
     let lines : c.len-3.result ≡ length c.args.lines.items = search rules in
-    text_is image sections c.in_ok-rows.rows.items c.text_base.result _ _ _ _ _ _ _ _ _ _ c.in_ok-sections.ensures
+    text_is image sections c.in_ok-rows.rows.items c.text_base.result c.len.result c.len-2.result _ c.len-3.result _ _ _ _ _
+    c.args.lines.items
+    c.in_ok-sections.ensures
     (subst (λ b. AreSteps b c.in_ok-rows.rows.items) c.of_read.ensures c.in_ok-rows.ensures) c.text_base.ensures
     c.strings_of-strings.ensures.is counted long refl lines c.in_ok-push_head.ensures.base
     (subst (All IsRow) c.deref-2.ensures.value c.in_ok-push_rows.ensures.fit) c.new-own.ensures.items c.in_ok-push_head.ensures.pushed

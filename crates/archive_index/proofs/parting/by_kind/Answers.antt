@@ -3,7 +3,7 @@ use Rattle.std.specs.FinSet.{from_list}
 use Rattle.std.specs.Vec.Iter.{into_iter_items}
 use Rattle.archive_core.specs.declared.operations.Operation.{Operation}
 use Rattle.archive_index.proofs.Parted.{parting_none, parted}
-use Rattle.archive_index.proofs.parting.parts_of.Goals as goal
+use Rattle.archive_index.proofs.parting.by_kind.Goals as goal
 
 pub operations-init : goal.operations-init
 operations-init c =

@@ -3,7 +3,7 @@ use Rattle.std.specs.FinSet.{from_list}
 use Rattle.std.specs.Vec.Iter.{into_iter_items, into_iter_len}
 use Rattle.archive_core.specs.Content.{Operations, IsMade}
 use Rattle.archive_index.specs.InnerTaking.{IsParting}
-use Rattle.archive_index.proofs.parting.parts_of.Given as goal
+use Rattle.archive_index.proofs.parting.by_kind.Given as goal
 
 abbrev pub invariant-operations : goal.invariant-operations
 invariant-operations l = record {

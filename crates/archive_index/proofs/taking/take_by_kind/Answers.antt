@@ -6,7 +6,7 @@ use Rattle.archive_core.specs.Record.{record_bytes}
 use Rattle.archive_core.proofs.Joined.{none_taken}
 use Rattle.archive_core.proofs.Taken.{new_within}
 use Rattle.archive_index.proofs.Parted.{admissions_in_part, retirements_in_part}
-use Rattle.archive_index.proofs.taking.take_parts.Goals as goal
+use Rattle.archive_index.proofs.taking.take_by_kind.Goals as goal
 
 pub returns-in_err-parts : goal.returns-in_err-parts
 returns-in_err-parts g c =

@@ -1,5 +1,5 @@
 use Rattle.std.proofs.Common.{◌≡◌, ◌++◌, take, map, string_bytes}
-use Rattle.cli_arguments.proofs.lines.push_all.Given as goal
+use Rattle.cli_arguments.proofs.lines.push_paths.Given as goal
 
 abbrev pub invariant-texts : goal.invariant-texts
 invariant-texts l =

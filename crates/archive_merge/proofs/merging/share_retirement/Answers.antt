@@ -1,6 +1,6 @@
 use Rattle.std.proofs.Common.{sym, ◌∙◌}
 use Rattle.archive_merge.proofs.Shares.{equal_not_ne, merging_shared, telling_shared}
-use Rattle.archive_merge.proofs.merging.share.Goals as goal
+use Rattle.archive_merge.proofs.merging.share_retirement.Goals as goal
 
 pub returns-in-Ok-clause-merging : goal.returns-in-Ok-clause-merging
 returns-in-Ok-clause-merging g c =

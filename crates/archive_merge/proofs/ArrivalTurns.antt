@@ -36,9 +36,10 @@ use Rattle.archive_merge.specs.declared.side.Lookahead.TheVariants.{Unread}
 use Rattle.archive_merge.specs.declared.side.MergeInput.{MergeInput}
 use Rattle.archive_merge.specs.declared.arrivals.Arrival.{Arrival}
 use Rattle.archive_merge.specs.MergeSteps.{HasEnded, HasStoppedMerge, IsBeforeTurn, Joins, MergedAll, Merging, Stands}
-use Rattle.archive_merge.specs.MergeSteps.{TellsBy, DecidesCovered, after_turn, first_of, left_after, memory_after}
+use Rattle.archive_merge.specs.MergeSteps.{DecidesCoveredBy, DecidesCovered, after_turn, first_of, left_after, memory_after}
 use Rattle.archive_merge.specs.MergeSteps.{next_record, next_record_by, right_after, Both}
-use Rattle.archive_merge.specs.ArrivalSteps.{Telling, TellsNextBy, TellsNext, ReportsAllArrivals, has_next, has_next_by, is_withdrawn, told_with}
+use Rattle.archive_merge.specs.ArrivalSteps.{MergingWithArrivals, IsNextArrivalBy, IsNextArrival, ReportsAllArrivals}
+use Rattle.archive_merge.specs.ArrivalSteps.{has_next, has_next_by, is_withdrawn, with_arrival}
 use Rattle.archive_merge.specs.Arrivals.{arrival_by, arrival_of}
 use Rattle.archive_merge.proofs.Covered.{covered_by, not_same}
 use Rattle.archive_merge.proofs.MergeSteps.{first_less, first_equal, first_greater, held_dropped, held_record, next_turn, passed, wrote}
@@ -107,7 +108,7 @@ withdraws_more d c w = grind arith
 -- ---- a turn
 
 module _ (a1 b1 a2 b2 w0 w1 : Option (List ℕ)) (m : Sides) (told : List Arrival) (withdraws : Bool)
-    (arrival : Option Arrival) (t : Telling a1 b1 a2 b2 w0 w1 m told withdraws) (tells : TellsNext m arrival)
+    (arrival : Option Arrival) (t : MergingWithArrivals a1 b1 a2 b2 w0 w1 m told withdraws) (tells : IsNextArrival m arrival)
     (before : IsBeforeTurn m) where
   abbrev p : Merging a1 b1 a2 b2 w0 w1 m
   p = t.merging
@@ -116,19 +117,19 @@ module _ (a1 b1 a2 b2 w0 w1 : Option (List ℕ)) (m : Sides) (told : List Arriva
       → Both a1 b1 a2 b2 (left_after o m.left) (right_after o m.right) (p.out ++ next_record_by o m ∷ [])
   after o first = next_turn a1 b1 a2 b2 w0 w1 m p before o first
 
-  told_next : (o : Ordering) (first : first_of m.left m.right ≡ o) → TellsNextBy o m.left m.right arrival
-      → told_with told arrival ≡ map (arrival_of (set_of (after o first).lefts)) (after o first).rights
+  told_next : (o : Ordering) (first : first_of m.left m.right ≡ o) → IsNextArrivalBy o m.left m.right arrival
+      → with_arrival told arrival ≡ map (arrival_of (set_of (after o first).lefts)) (after o first).rights
   unfolding next_turn
   told_next Less first is =
       let f = first_less m.left.ahead m.right.ahead _ first in
-      ap (told_with told) is ∙ t.arrivals_are ∙ sym (told_still p.out p.both.lefts p.both.rights m.left.reader.last p.both.joins (p.both.left.held f.0).1)
+      ap (with_arrival told) is ∙ t.arrivals_are ∙ sym (told_still p.out p.both.lefts p.both.rights m.left.reader.last p.both.joins (p.both.left.held f.0).1)
   told_next Equal first is =
       let x = m.left.reader.last in
       let f = first_equal m.left.ahead m.right.ahead _ first in
       let above = (p.both.left.held f.0).1 in
       let own = held_dropped a1 b1 p.both.lefts (last_of [] p.out) m.left p.both.left f.0 in
       let same = told_still p.out p.both.lefts p.both.rights x p.both.joins above in
-      ap (told_with told) is ∙ cc (
+      ap (with_arrival told) is ∙ cc (
         t.arrivals_are,
         same,
         own,
@@ -140,7 +141,7 @@ module _ (a1 b1 a2 b2 w0 w1 : Option (List ℕ)) (m : Sides) (told : List Arriva
       let f = first_greater m.left.ahead m.right.ahead _ before.read.left before.some first in
       let whole = held_record a2 b2 p.both.rights (last_of [] p.out) m.right p.both.right f.0 in
       let covers = covered_by a1 b1 p.both.lefts (last_of [] p.out) m.left x p.both.left before.read.left (λ held. below-greater _ _ (f.1 held)) in
-      ap (told_with told) (is whole) ∙ cc (
+      ap (with_arrival told) (is whole) ∙ cc (
         t.arrivals_are,
         covers,
         arrival_alone p.out p.both.lefts p.both.rights x p.both.joins (p.both.right.held f.0).1,
@@ -148,7 +149,7 @@ module _ (a1 b1 a2 b2 w0 w1 : Option (List ℕ)) (m : Sides) (told : List Arriva
       )
 
   -- whether the record that is passed over or written is one that the right side retires
-  withdraws_next : (passed : Bool) (o : Ordering) (first : first_of m.left m.right ≡ o) → TellsBy o m.left m.right passed
+  withdraws_next : (passed : Bool) (o : Ordering) (first : first_of m.left m.right ≡ o) → DecidesCoveredBy o m.left m.right passed
       → ((passed && has_next_by o m.left) || withdraws)
       ≡ list_any (is_withdrawn (set_of (after o first).lefts) (set_of (after o first).rights)) (after o first).lefts
   unfolding next_turn
@@ -201,7 +202,8 @@ module _ (a1 b1 a2 b2 w0 w1 : Option (List ℕ)) (m : Sides) (told : List Arriva
       same ∙ t.withdraws_is ∙ sym (withdrawn_right p.out p.both.lefts p.both.rights x p.both.joins (p.both.right.held f.0).1 p.both.lefts)
 
   -- the record is passed over
-  pub tells_passed : DecidesCovered m.left m.right true → Telling a1 b1 a2 b2 w0 w1 (after_turn m m.written) (told_with told arrival) (has_next m || withdraws)
+  pub tells_passed : DecidesCovered m.left m.right true
+      → MergingWithArrivals a1 b1 a2 b2 w0 w1 (after_turn m m.written) (with_arrival told arrival) (has_next m || withdraws)
   unfolding passed
   tells_passed covered = record {
     merging = passed a1 b1 a2 b2 w0 w1 m p before covered;
@@ -214,7 +216,7 @@ module _ (a1 b1 a2 b2 w0 w1 : Option (List ℕ)) (m : Sides) (told : List Arriva
   -- or written
   pub tells_wrote : DecidesCovered m.left m.right false → (w2 : Option (List ℕ)) (written : Sizes) → written.records
       ≡ m.written.records + 1 → written.bytes ≡ m.written.bytes + length (next_record m) → Appends w1 w2 (next_record m)
-      → Telling a1 b1 a2 b2 w0 w2 (after_turn m written) (told_with told arrival) withdraws
+      → MergingWithArrivals a1 b1 a2 b2 w0 w2 (after_turn m written) (with_arrival told arrival) withdraws
   unfolding wrote
   tells_wrote free w2 written records bytes gained = record {
     merging = wrote a1 b1 a2 b2 w0 w1 m p before free w2 written records bytes gained;
@@ -231,7 +233,7 @@ pub tells_start : (a1 b1 a2 b2 w0 w1 : Option (List ℕ)) (left right : MergeInp
     (h : HasRead left.reader.file a1 b1 [] left.reader) (k : HasRead right.reader.file a2 b2 [] right.reader)
     (s : left.ahead ≡ Unread) (t : right.ahead ≡ Unread)
     (x : List ℕ) (x_is : x ≡ magic) (written : ℕ) → written ≡ 0 + length x → Appends w0 w1 x
-    → Telling a1 b1 a2 b2 w0 w1 (record {
+    → MergingWithArrivals a1 b1 a2 b2 w0 w1 (record {
       left = left;
       right = right;
       written =
@@ -248,9 +250,9 @@ tells_start a1 b1 a2 b2 w0 w1 left right f g h k s t x x_is written n p =
 -- ---- a side is read on
 
 pub tells_left_read : (a1 a2 w0 w1 b1 b2 c1 : Option (List ℕ)) (m : Sides) (told : List Arrival) (withdraws : Bool)
-    → Telling a1 b1 a2 b2 w0 w1 m told withdraws → (left : MergeInput) → left.ahead ≢ Unread
+    → MergingWithArrivals a1 b1 a2 b2 w0 w1 m told withdraws → (left : MergeInput) → left.ahead ≢ Unread
     → ((done : List (List ℕ)) (low : List ℕ) → Stands a1 b1 done low m.left → Stands a1 c1 done low left)
-    → Telling a1 c1 a2 b2 w0 w1 (record { left = left; right = m.right; written = m.written }) told withdraws
+    → MergingWithArrivals a1 c1 a2 b2 w0 w1 (record { left = left; right = m.right; written = m.written }) told withdraws
 unfolding left_read
 tells_left_read a1 a2 w0 w1 b1 b2 c1 m told withdraws t left read stands =
     record {
@@ -260,9 +262,9 @@ tells_left_read a1 a2 w0 w1 b1 b2 c1 m told withdraws t left read stands =
     }
 
 pub tells_right_read : (a1 a2 w0 w1 b1 b2 c2 : Option (List ℕ)) (m : Sides) (told : List Arrival) (withdraws : Bool)
-    → Telling a1 b1 a2 b2 w0 w1 m told withdraws → m.left.ahead ≢ Unread → (right : MergeInput)
+    → MergingWithArrivals a1 b1 a2 b2 w0 w1 m told withdraws → m.left.ahead ≢ Unread → (right : MergeInput)
     → ((done : List (List ℕ)) (low : List ℕ) → Stands a2 b2 done low m.right → Stands a2 c2 done low right)
-    → Telling a1 b1 a2 c2 w0 w1 (record { left = m.left; right = right; written = m.written }) told withdraws
+    → MergingWithArrivals a1 b1 a2 c2 w0 w1 (record { left = m.left; right = right; written = m.written }) told withdraws
 unfolding right_read
 tells_right_read a1 a2 w0 w1 b1 b2 c2 m told withdraws t read right stands =
     record {
@@ -306,8 +308,8 @@ no_room a1 b1 a2 b2 w0 w1 m p read unread few e fault offset is memory at =
 
 -- the same, as it is held
 pub tells_as : (a1 b1 a2 b2 w0 w1 : Option (List ℕ)) (m : Sides) (told held : List Arrival) (withdraws kept : Bool)
-    → held ≡ told → kept ≡ withdraws → Telling a1 b1 a2 b2 w0 w1 m told withdraws
-    → Telling a1 b1 a2 b2 w0 w1 m held kept
+    → held ≡ told → kept ≡ withdraws → MergingWithArrivals a1 b1 a2 b2 w0 w1 m told withdraws
+    → MergingWithArrivals a1 b1 a2 b2 w0 w1 m held kept
 tells_as a1 b1 a2 b2 w0 w1 m told held withdraws kept same alike t = record {
   merging = t.merging;
   arrivals_are = same ∙ t.arrivals_are;
@@ -326,6 +328,6 @@ module _ (a1 b1 a2 b2 w0 w1 w2 : Option (List ℕ)) (m : Sides) (ended : HasEnde
   abbrev pub merging_end : Merging a1 b1 a2 b2 w0 w1 m → MergedAll a1 b1 a2 b2 w0 w2 sizes
   merging_end p = record { before = w1; sides = m; merging = p; ended = ended; gained = gained; records = records; bytes = bytes }
 
-  pub tells_end : (told : List Arrival) (withdraws : Bool) → Telling a1 b1 a2 b2 w0 w1 m told withdraws
+  pub tells_end : (told : List Arrival) (withdraws : Bool) → MergingWithArrivals a1 b1 a2 b2 w0 w1 m told withdraws
       → ReportsAllArrivals a1 b1 a2 b2 w0 w2 sizes told withdraws
   tells_end told withdraws t = record { merged = merging_end t.merging; arrivals_are = t.arrivals_are; withdraws_is = t.withdraws_is }

@@ -26,7 +26,7 @@ use Rattle.archive_merge.specs.ArrivalSteps.{ReportsAllArrivals, is_withdrawn}
 use Rattle.archive_merge.specs.Arrivals.{arrival_by, arrival_of}
 use Rattle.archive_merge.proofs.Fronts.{taken_made, taken_rest}
 use Rattle.archive_merge.proofs.Merges.{merged}
-use Rattle.archive_merge.proofs.Tells.{same_answers}
+use Rattle.archive_merge.proofs.ArrivalTurns.{same_answers}
 
 -- ---- a record is the same to what is made of records
 

@@ -4,8 +4,8 @@ use Rattle.archive_core.specs.declared.find.FindRow.{FindRow}
 use Rattle.text_reports.specs.InnerSlices.{AnswersBeside, AnswersIn, row_key}
 use Rattle.text_reports.proofs.Kept.{AreOfFirst, exactly_same, kept_all, kept_more, kept_same}
 use Rattle.text_reports.proofs.Sliced.{beside_companions}
-use Rattle.text_reports.proofs.slices.answering_entries.Goals as goal
-use Rattle.text_reports.proofs.slices.answering_entries.Goals.{then-answers_beside+in_ok-push, else-answers_beside}
+use Rattle.text_reports.proofs.slices.answering_live_rows.Goals as goal
+use Rattle.text_reports.proofs.slices.answering_live_rows.Goals.{then-answers_beside+in_ok-push, else-answers_beside}
 
 pub rows-preserved : goal.rows-preserved
 rows-preserved c =

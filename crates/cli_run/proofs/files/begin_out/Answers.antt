@@ -1,6 +1,6 @@
 use Rattle.std.proofs.Common.{◌∙◌, ℕ, List, Bor, ap, map, option_map, sym}
 use Rattle.cli_run.proofs.OutPublished.{path_from}
-use Rattle.cli_run.proofs.files.begin.Goals as goal
+use Rattle.cli_run.proofs.files.begin_out.Goals as goal
 
 pub returns-clause-path : goal.returns-clause-path
 returns-clause-path g c =

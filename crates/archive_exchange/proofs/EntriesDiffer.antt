@@ -1,4 +1,4 @@
--- Entries tell issued operations apart where digests tell issued slices apart.
+-- If no two different issued slices have the same SHA-256, no two different issued operations have the same entry.
 use Rattle.std.proofs.Common.{ℕ, List, subst}
 use Rattle.archive_core.proofs.Entries.{entry_tells}
 use Rattle.archive_exchange.specs.World.{Event}
