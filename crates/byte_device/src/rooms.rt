@@ -1,14 +1,16 @@
-//! Room for bytes that are read into memory.
+//! Memory for bytes that are read.
 
-ghost use Rattle.std.specs.Prelude.{◌≡◌, ◌≤◌, OnOk, max, vec_capacity};
+ghost use Rattle.std.specs.Prelude.{◌≡◌, ◌≤◌, ◌*◌, OnOk, max, vec_capacity};
 
 use memory::{Heap, NoMemory};
 
-// From this room on memory grows by a quarter.
+// From this capacity, memory grows by a quarter.
 const LARGE_ROOM: usize = 64 * 1024 * 1024;
 
-/// The room that is asked for after this: twice as much, and a quarter more where it is large.
-fn next_room(room: usize) -> usize {
+/// The next capacity: twice as much, or a quarter more from `LARGE_ROOM`.
+fn next_room(room: usize) -> usize
+    ensures { result ≤ 2 * room }
+{
     if room < LARGE_ROOM {
         room * 2
     } else {
@@ -16,13 +18,14 @@ fn next_room(room: usize) -> usize {
     }
 }
 
-/// Makes room for `least` bytes in all where there is none: twice the room that there was, from 64 MiB on a quarter
-/// more, but no more than `most`. So the last growth is to the length where that is known, and a length that is only
-/// claimed takes no memory: at most twice what came.
+/// Makes room for `least` bytes in all, if there is less: twice the old capacity, from 64 MiB a quarter more, but no
+/// more than `most`. So the last growth is to the exact length if that is known, and a length that is only claimed uses
+/// no memory: the capacity is at most twice the bytes that were read.
 pub fn make_room(bytes: &mut Vec<u8, Heap>, least: usize, most: usize) -> Result<(), NoMemory>
     requires within { least ≤ most }
     ensures same { bytes.new.items ≡ bytes.old.items }
     ensures room { OnOk result (least ≤ vec_capacity bytes.new) }
+    ensures growth { OnOk result (vec_capacity bytes.new ≤ max least (2 * vec_capacity bytes.old)) }
     ensures most { OnOk result (vec_capacity bytes.new ≤ max (vec_capacity bytes.old) most) }
 {
     if least <= bytes.capacity() {

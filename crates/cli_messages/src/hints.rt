@@ -1,8 +1,8 @@
-//! What helps a person with a failure: which file it was, what the system said, and what a refused file looks like. Of
-//! it contracts say what it is of, the path, what was seen of the file, the faulty line, the hint for a stale index, and
-//! the words of both.
+//! The hints for a person after a failure: the file, the error of the system, and the kind of a refused file. Contracts
+//! cover the subject, the path, the known facts about the file, the faulty line, the hint for an index that is stale,
+//! changed or without lines, and the texts of the last two. That a line has these texts is only tested.
 
-ghost use Rattle.std.specs.Prelude.{◌≡◌, ℕ, codes, Err, IfSome, None, Option, Some};
+ghost use Rattle.std.specs.Prelude.{◌≡◌, ℕ, codes, Err, IfSome, None, Option, Some, is_some};
 ghost use Rattle.command_common.specs.declared.failures.Failure.TheVariants.{Command};
 ghost use Rattle.command_common.specs.declared.faults.CommandFault.TheVariants.{Input};
 ghost use Rattle.command_common.specs.declared.faults.InputName.{InputName};
@@ -28,26 +28,26 @@ use std::fmt::{self, Display, Write};
 use std::io::{self, ErrorKind, Read, Seek};
 use std::rt::Files;
 
-/// What was seen of the file that a command failed at.
+/// The known facts about the file at which a command failed.
 #[derive(Clone, Copy)]
 pub struct Seen {
-    /// What the system said, if it refused something.
+    /// The error of the system, if it refused something.
     pub reason: Option<io::Error>,
-    /// What the file looks like, if that is known.
+    /// The kind of the file, if it is known.
     pub kind: Option<FileKind>,
-    /// Why what is at OUT was not replaced, if it was not.
+    /// Why the file at OUT was not replaced, if it was not.
     pub obstacle: Option<Obstacle>,
 }
 
 impl Seen {
-    /// Nothing.
+    /// Nothing is known.
     pub const NOTHING: Seen = Seen {
         reason: None,
         kind: None,
         obstacle: None,
     };
 
-    /// What was seen of a file that is read from its start.
+    /// The known facts about a file that is read from its start.
     fn of_open<R: Read + Drop>(file: &OpenedFile<R>) -> Seen
         ensures { result ≡ seen_open file.now }
     {
@@ -58,7 +58,7 @@ impl Seen {
         }
     }
 
-    /// What was seen of a file that is read from any place.
+    /// The known facts about a file that is read at any offset.
     fn of_placed<R: Read + Seek + Drop>(file: &PlacedFile<R>) -> Seen
         ensures { result ≡ seen_placed file.now }
     {
@@ -69,7 +69,7 @@ impl Seen {
         }
     }
 
-    /// What was seen of an input.
+    /// The known facts about an input.
     #[tactic(auto, using(crate::proofs::Seeing::seen_in_open, crate::proofs::Seeing::seen_in_placed))]
     fn of_input<F: Files>(input: &SystemInput<'_, '_, F>) -> Seen
         ensures { result ≡ seen_in input.now.state }
@@ -89,7 +89,7 @@ impl Seen {
         }
     }
 
-    /// What was seen of the file that a command with these inputs failed at.
+    /// The known facts about the file at which a command with these inputs failed.
     pub fn by<F: Files>(
         ended: &Result<Status, CommandFault>,
         inputs: &Inputs<SystemInput<'_, '_, F>>,
@@ -115,7 +115,7 @@ impl Seen {
     }
 }
 
-/// What a failure is of.
+/// The subject of a failure.
 #[derive(Clone, Copy)]
 pub(crate) enum Subject {
     Input(InputName),
@@ -137,7 +137,7 @@ impl Display for Subject {
     }
 }
 
-/// What is known of OUT where it was not created or not replaced, or of an input that is refused.
+/// The known facts about OUT if it was not created or not replaced, or of a refused input.
 #[derive(Clone, Copy)]
 enum Hint {
     SameFile,
@@ -153,7 +153,7 @@ enum Hint {
 }
 
 impl Hint {
-    /// What is known where this is why OUT was not replaced; what the system said stands at the end of the line.
+    /// The hint if this is why OUT was not replaced. The error of the system is at the end of the line.
     fn of(obstacle: Obstacle) -> Option<Hint> {
         match obstacle {
             Obstacle::OtherKind(bytes) => Some(Hint::OtherKind(FileKind::of(&bytes))),
@@ -165,7 +165,7 @@ impl Hint {
     }
 }
 
-/// What is said of a file at OUT that is of another kind.
+/// The text for a file of another kind at OUT.
 fn other_kind(kind: Option<FileKind>) -> &'static str
     ensures { result.now ≡ other_kind_text kind }
 {
@@ -178,7 +178,7 @@ fn other_kind(kind: Option<FileKind>) -> &'static str
     }
 }
 
-/// The word for so many records.
+/// The word after this number of records.
 #[tactic(auto, unfolding(crate::specs::Hints::records_word))]
 fn records_word(count: u64) -> &'static str
     ensures { result.now ≡ records_word count }
@@ -224,7 +224,7 @@ impl Display for Hint {
     }
 }
 
-/// A line that helps a person with a failure.
+/// A second line, which helps a person with a failure.
 #[derive(Clone, Copy)]
 pub struct SecondLine<'p> {
     pub(crate) subject: Subject,
@@ -234,7 +234,7 @@ pub struct SecondLine<'p> {
     seen: Seen,
 }
 
-/// What a refused file looks like, where that says why it is refused.
+/// The kind of a refused file, if that explains why it is refused.
 fn kind_of(why: Why, kind: Option<FileKind>) -> Option<FileKind> {
     match (why, kind) {
         (Why::Record(fault), _) if fault.offset == 0 => kind,
@@ -245,7 +245,7 @@ fn kind_of(why: Why, kind: Option<FileKind>) -> Option<FileKind> {
     }
 }
 
-/// The hint for an input that is refused for this.
+/// The hint for an input that is refused for this reason.
 fn hint_of(why: Why) -> Option<Hint>
     ensures stale { (entry : Option ℕ) → why ≡ Stale entry → result ≡ Some (stale_hint entry) }
     ensures torn { (entry : ℕ) → why ≡ Damaged entry → result ≡ Some DamagedIndex }
@@ -261,11 +261,13 @@ fn hint_of(why: Why) -> Option<Hint>
     }
 }
 
-/// The line that helps with this failure of a line, if there is one.
+/// The second line for this failure of a line, if there is one.
 pub fn second_line_of<'p>(line: &'p Line, failure: &Failure, seen: Seen) -> Option<SecondLine<'p>>
+    ensures some { is_some result ≡ is_some (file_of (line_view line.now) failure.now) }
     ensures path { IfSome result (λ help. Some help.path.now ≡ file_of (line_view line.now) failure.now) }
     ensures subject { IfSome result (λ help. subject_text help.subject ≡ subject_of failure.now) }
     ensures faulty { IfSome result (λ help. help.faulty ≡ faulty_line_of failure.now) }
+    ensures reason { IfSome result (λ help. help.seen.reason ≡ seen.reason) }
     ensures stale { (name : InputName) (entry : Option ℕ) → failure.now ≡ Command (Input name (Stale entry))
         → IfSome result (λ help. help.hint ≡ Some (stale_hint entry)) }
     ensures torn { (name : InputName) (entry : ℕ) → failure.now ≡ Command (Input name (Damaged entry))
@@ -287,18 +289,20 @@ pub fn second_line_of<'p>(line: &'p Line, failure: &Failure, seen: Seen) -> Opti
             })
         }
         Failure::Command(CommandFault::Output(_)) => out_second_line(line, None, seen),
-        // Why the report failed is known to its owner.
+        // The caller knows why the report failed.
         Failure::Command(CommandFault::Report(_) | CommandFault::OutOfMemory) => None,
         Failure::CannotCreate(_) => out_second_line(line, Some(Hint::SameFile), seen),
         Failure::CannotReplace => out_second_line(line, seen.obstacle.and_then(Hint::of), seen),
     }
 }
 
-/// A line of OUT. The hint is given where the system said nothing.
+/// The second line for OUT. The hint is used if there is no error of the system.
 fn out_second_line<'p>(line: &'p Line, hint: Option<Hint>, seen: Seen) -> Option<SecondLine<'p>>
+    ensures some { is_some result ≡ is_some (out_of (line_view line.now)) }
     ensures path { IfSome result (λ help. Some help.path.now ≡ out_of (line_view line.now)) }
     ensures subject { IfSome result (λ help. subject_text help.subject ≡ codes "output") }
     ensures faulty { IfSome result (λ help. help.faulty ≡ None) }
+    ensures reason { IfSome result (λ help. help.seen.reason ≡ seen.reason) }
 {
     Some(SecondLine {
         subject: Subject::Output,
@@ -309,7 +313,7 @@ fn out_second_line<'p>(line: &'p Line, hint: Option<Hint>, seen: Seen) -> Option
     })
 }
 
-/// What is known of the file.
+/// Prints the rest of the line: the hint, the faulty line, the kind of the file, and the error of the system.
 impl Display for SecondLine<'_> {
     fn fmt<W: fmt::Write>(&self, f: &mut fmt::Formatter<W>) -> fmt::Result {
         if let Some(hint) = self.hint {
