@@ -99,7 +99,7 @@ class ChangedBytes(IndexCase):
     def test_one_at_each_of_fifty_places(self) -> None:
         for _ in range(50):
             self.found_and_mended(1)
-        told = f"symarch-keep: {self.room.archive}: 15 slices, 6 retirements: all is as it was"
+        told = f"symarch-keep: {self.room.archive}: 15 slices, 6 retirements: nothing changed"
         same("last check", self.check(), ([], [told]))
 
 
@@ -203,7 +203,7 @@ class PutByHand(IndexCase):
         self.room.archive.write_bytes(archive(made[:2]))
         self.room.index()
         self.room.archive.write_bytes(archive(made[:3]))
-        told = f"symarch-keep: {self.room.archive}: 3 slices, 0 retirements: all is there that was known"
+        told = f"symarch-keep: {self.room.archive}: 3 slices, 0 retirements: everything that was known is there"
         same("more", self.check(), ([], [told]))
         self.room.index()
         self.room.archive.write_bytes(archive([made[0], made[3]], retired=[made[1]]))
@@ -219,7 +219,7 @@ class PutByHand(IndexCase):
         same("errors", self.room.call("fold", self.room.archive)[1][0], told)
         self.room.file("good.sym", archive(made))
         _, errors = self.room.call("repair", self.room.archive, "good.sym")
-        same("errors", errors, [f"symarch-keep: {self.room.archive}: all is as it was"])
+        same("errors", errors, [f"symarch-keep: {self.room.archive}: nothing changed"])
         self.is_indexed(archive([made[0], *made[2:]], retired=made[1:2]))
 
     def test_with_a_slice_that_changed(self) -> None:
@@ -328,7 +328,7 @@ class Upgraded(IndexCase):
         before = sorted(path.name for path in self.folder.iterdir())
         counting = self.room.program(f'echo "$1" >>{self.folder}/calls\nexec "$symarch" "$@"')
         out, errors = self.room.call("check", self.room.archive, environment=counting)
-        told = f"symarch-keep: {self.room.archive}: 7 slices, 2 retirements: all is as it was"
+        told = f"symarch-keep: {self.room.archive}: 7 slices, 2 retirements: nothing changed"
         same("check", (out, errors), ([], [told]))
         same("calls", (self.folder / "calls").read_text(), "--version\n")
         after = sorted(path.name for path in self.folder.iterdir())

@@ -213,4 +213,4 @@ class Stated(JsonCase):
             with self.room.start(word, "--json", self.room.archive, stdout=writer) as process:
                 os.close(writer)
                 errors = process.communicate()[1].decode().splitlines()
-            same(word, (process.returncode, [it for it in errors if "all is as it was" not in it]), (2, []))
+            same(word, (process.returncode, [it for it in errors if "nothing changed" not in it]), (2, []))

@@ -361,7 +361,7 @@ class Meeting(SignersCase):
         north.folder = east.folder
         north.exchange(status=2)
         _, errors = east.exchange(status=2)
-        says = f"its signature says `folder {folder_of(north)}`, and not `folder {folder_of(east)}`"
+        says = f"its signature has `folder {folder_of(north)}`, and not `folder {folder_of(east)}`"
         same("named", named(errors, one_of(north, "asks")), [says])
         pathlib.Path(f"{north.archive}.signers").unlink()
         for site in (north, east, west, north):

@@ -241,7 +241,7 @@ class Check(LossCase):
         self.room.archive.write_bytes(archive([*self.made, more], retired=self.retired))
         before = state_of(self.folder)
         out, errors = self.word("check")
-        self.assertEqual((out, errors[-1].rpartition(": ")[2]), ([], "all is there that was known"))
+        self.assertEqual((out, errors[-1].rpartition(": ")[2]), ([], "everything that was known is there"))
         self.assertEqual(state_of(self.folder), before)
         self.room.archive.write_bytes(archive(self.made[1:], retired=self.retired))
         for _ in range(2):

@@ -21,7 +21,7 @@ FRONTS = {
     "a PDB file, which no command takes": b"Microsoft C/C++ MSF 7.00\r\n\x1aDS\0\0\0",
     "a PE file, which no command takes": b"MZ\x90\0",
     "a page of HTML, which no command takes": b"\n<!DOCTYPE html>\n<html lang='en'>",
-    "a text as a report begins, which `symbolicate-report` reads": b'{"app_name":"spool"}\n{}',
+    "a text that begins as a report, which `symbolicate-report` reads": b'{"app_name":"spool"}\n{}',
     "a Java class file, which no command takes": bytes.fromhex("cafebabe00000037"),
     "an archive, which `symarch merge` takes": archive([image(1)]),
     "an empty file": b"",
@@ -133,15 +133,15 @@ class Cut(RoomCase):
         for size in (len(made) - 1, second, second + 10):
             told = f"Fat(SliceOutside(1)): part 1 is bytes {second} to {end} by the table, and the file has {size}"
             self.refused(made[:size], told)
-        self.refused(made[:47], "Fat(TableTruncated): its table takes 48 bytes, and the file has 47")
+        self.refused(made[:47], "Fat(TableTruncated): its table needs 48 bytes, and the file has 47")
         for size in (4, 7):
-            self.refused(made[:size], f"Fat(HeaderTruncated): its header takes 8 bytes, and the file has {size}")
+            self.refused(made[:size], f"Fat(HeaderTruncated): its header needs 8 bytes, and the file has {size}")
 
     def test_an_image(self) -> None:
         told = f"Slice(0, Image(CommandsOutside)): its commands promise 56 bytes, and there are {len(image(4)) - 1}"
         self.refused(image(4)[:-1], told)
         for size in (4, 31):
-            told = f"Slice(0, Image(HeaderTruncated)): its header takes 32 bytes, and there are {size}"
+            told = f"Slice(0, Image(HeaderTruncated)): its header needs 32 bytes, and there are {size}"
             self.refused(image(4)[:size], told)
         made = symbols_outside(5)
         told = f"Slice(0, Symbols(SymbolsOutside)): its commands promise {4096 + 16} bytes, and there are {len(made)}"
@@ -157,13 +157,13 @@ class FaultyTables(RoomCase):
         """In folders and in a packed file, each is refused by its own fault, and the others are added."""
         two, counted = universal([image(1), image(2)]), struct.pack(">II", 0xCAFEBABE, 33)
         cut = f"Fat(SliceOutside(1)): part 1 is bytes 128 to 184 by the table, and the file has {len(two) - 1}"
-        table = "Fat(TableTruncated): its table takes 48 bytes, and the file has 20"
-        header = "Fat(HeaderTruncated): its header takes 8 bytes, and the file has 5"
+        table = "Fat(TableTruncated): its table needs 48 bytes, and the file has 20"
+        header = "Fat(HeaderTruncated): its header needs 8 bytes, and the file has 5"
         places = {
             "many/count": (counted + bytes(33 * 20), "Fat(TooManyArches(33))"),
             "many/cut": (two[:-1], cut),
             "many/lower/table": (two[:20], table),
-            "many/short": (counted, "Fat(TooManyArches(33)): its table takes 668 bytes, and the file has 8"),
+            "many/short": (counted, "Fat(TooManyArches(33)): its table needs 668 bytes, and the file has 8"),
         }
         for name, (content, _) in places.items():
             self.room.file(name, content)
@@ -187,7 +187,7 @@ class FaultyTables(RoomCase):
         said, errors = self.room.add("many", status=2, environment=narrow)
         same("refused", errors[:2], [
             "symarch-keep: many/large: symarch: out of memory",
-            "symarch-keep: many/small: Fat(TableTruncated): its table takes 28 bytes, and the file has 20",
+            "symarch-keep: many/small: Fat(TableTruncated): its table needs 28 bytes, and the file has 20",
         ])
         same("lines", said, [line("added", image(3), "many/one")])
 

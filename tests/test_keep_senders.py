@@ -159,14 +159,14 @@ class Month(ThreeSites):
         path = path.with_name(path.name.replace(".east.", ".north."))
         path.write_bytes(data)
         put_beside(path, signature)
-        return Attack(self.north, path, "its signature says `receiver east`, and not `receiver north`")
+        return Attack(self.north, path, "its signature has `receiver east`, and not `receiver north`")
 
     def swapped_sender(self, day: int) -> Attack:
         path, data, signature = self.real_answer(day)
         path = path.with_name(path.name.replace("west.", "north.", 1))
         path.write_bytes(data)
         put_beside(path, signature)
-        return Attack(self.east, path, "its signature says `sender west`, and not `sender north`")
+        return Attack(self.east, path, "its signature has `sender west`, and not `sender north`")
 
     def cut(self, _: int) -> Attack:
         path = self.question()
@@ -234,14 +234,14 @@ class Rules(ThreeSites):
             for name, data in self.files(number):
                 right = fields_of(name, data, self.shared_id)[field]
                 path = self.forge(name, data, "west", **{field: value})
-                reason = f"its signature says `{field} {value}`, and not `{field} {re.escape(right)}`"
+                reason = f"its signature has `{field} {value}`, and not `{field} {re.escape(right)}`"
                 self.refused(self.east, path, reason)
         for name, data in self.files():
             for length in ("0", "1" * 18):
                 path = self.forge(name, data, "west", length=length)
                 self.refused(self.east, path, f"has {len(data)} bytes, and {length} were signed")
             path = self.forge(name, data, "west", length="x")
-            self.refused(self.east, path, f"its signature says `length x`, and not `length {len(data)}`")
+            self.refused(self.east, path, f"its signature has `length x`, and not `length {len(data)}`")
 
     def test_each_kind_without_a_right_signature(self) -> None:
         self.begin(self.east, self.west)
@@ -254,9 +254,9 @@ class Rules(ThreeSites):
             (lambda text: text, self.unknown("west")),
             (lambda text: text + armor.encode(), self.unknown("west")),
             (lambda text: signed(text, self.keys / "west")[:-60], self.unknown("west")),
-            (lambda text: b"", "its signature says ``, and not `symarch-keep exchange 1`"),
-            (lambda text: b"\x1b[31m\n", r"its signature says `\\x1b\[31m`, and not `symarch-keep exchange 1`"),
-            (lambda text: signed(text + b"more 1\n", self.keys / "west"), "its signature says `more 1`, and not ``"),
+            (lambda text: b"", "its signature has ``, and not `symarch-keep exchange 1`"),
+            (lambda text: b"\x1b[31m\n", r"its signature has `\\x1b\[31m`, and not `symarch-keep exchange 1`"),
+            (lambda text: signed(text + b"more 1\n", self.keys / "west"), "its signature has `more 1`, and not ``"),
             (lambda text: signed(text, self.keys / "west") + bytes(1 << 16), "its signature has more than 65536 bytes"),
         ]
         for number, (make, reason) in enumerate(makers):
@@ -443,7 +443,7 @@ class Replayed(ThreeSites):
             shutil.copy2(path, self.shared / path.name)
         _, errors = self.east.exchange(status=2)
         for path in (one_of(others[1], "asks"), one_of(others[1], "answers", "east")):
-            says = f"its signature says `folder {other}`, and not `folder {self.shared_id}`"
+            says = f"its signature has `folder {other}`, and not `folder {self.shared_id}`"
             same("named", named(errors, self.shared / path.name), [says])
         same("archive", self.east.has(), archive([image(0), image(1)]))
 

@@ -154,7 +154,7 @@ class Today(TodayCase):
         self.room.archive.write_bytes(archive(made + new))
         today_of(self.room.archive).write_bytes(EMPTY)
         _, errors = self.room.call("check", self.room.archive)
-        told = f"symarch-keep: {self.room.archive}: 42 slices, 0 retirements: all is there that was known"
+        told = f"symarch-keep: {self.room.archive}: 42 slices, 0 retirements: everything that was known is there"
         same("check", errors, [told])
         more = self.room.make_many(1, first=9, folder="more")
         self.room.add("more")
@@ -187,7 +187,7 @@ class Today(TodayCase):
             same("last line", errors, [f"symarch-keep: {self.room.archive}: 2 repaired, 0 still changed"])
             self.both(*good)
         _, errors = self.room.call("check", self.room.archive)
-        same("last check", errors, [f"symarch-keep: {self.room.archive}: 43 slices, 0 retirements: all is as it was"])
+        same("last check", errors, [f"symarch-keep: {self.room.archive}: 43 slices, 0 retirements: nothing changed"])
 
 
 class Fold(TodayCase):

@@ -143,7 +143,7 @@ class Feedback(ReportCase):
         self.is_refused([cut, "shipped"], "symbolicate-report: cut.zip: a zip file that is cut or damaged")
         self.assertFalse((self.folder / "new").exists())
         bad = self.packed("bad.zip", {"1.crash": b"none\n"})
-        said = "symbolicate-report: bad.zip: 1.crash: no report that is read here: no stack frames"
+        said = "symbolicate-report: bad.zip: 1.crash: no report of a known kind: no stack frames"
         self.is_refused([bad, "shipped"], said)
 
     def test_a_member_that_is_damaged(self) -> None:

@@ -405,7 +405,7 @@ class Refused(ReportCase):
 
     def test_no_report(self) -> None:
         path = self.file("source", (CRASHES / "spool.c").read_bytes())
-        self.is_refused([path, "shipped"], self.unread("source: no report that is read here: no stack frames"))
+        self.is_refused([path, "shipped"], self.unread("source: no report of a known kind: no stack frames"))
 
     def test_frames_of_the_program(self) -> None:
         """What to type is said."""
@@ -415,17 +415,17 @@ class Refused(ReportCase):
 
     def test_images_alone(self) -> None:
         path = self.file("images", re.sub(rb"^[0-9] .*\n", b"", source("crash"), flags=re.M))
-        why = "images: no report that is read here: images, but no stack frames"
+        why = "images: no report of a known kind: images, but no stack frames"
         self.is_refused([path, "shipped"], self.unread(why))
 
     def test_the_first_lines_of_a_text(self) -> None:
         path = self.head("head", "crash", 5)
-        why = "no report that is read here: no stack frames; it ends at line 5, byte 204, before its first frame"
+        why = "no report of a known kind: no stack frames; it ends at line 5, byte 204, before its first frame"
         self.is_refused([path, "shipped"], self.unread(f"head: {why}"))
 
     def test_the_first_line_of_an_ips(self) -> None:
         path = self.head("first", "ips", 1)
-        why = "no report that is read here: no stack frames; it ends at line 1, byte 215, before its first frame"
+        why = "no report of a known kind: no stack frames; it ends at line 1, byte 215, before its first frame"
         self.is_refused([path, "shipped"], self.unread(f"first: {why}"))
 
     def test_an_ips_that_ends_before_its_images(self) -> None:
@@ -448,10 +448,10 @@ class Refused(ReportCase):
 
     def test_a_whole_text_without_frames(self) -> None:
         path = self.file("none", re.sub(rb"^([0-9]) .*\n", rb"\1   spool   spool + 12\n", source("crash"), flags=re.M))
-        why = "none: no report that is read here: images, but no stack frames"
+        why = "none: no report of a known kind: images, but no stack frames"
         self.is_refused([path, "shipped"], self.unread(why))
         path = self.file("less", re.sub(rb"<[0-9a-f]{32}>", b"", path.read_bytes()))
-        why = "less: no report that is read here: a list of images, but no stack frames"
+        why = "less: no report of a known kind: a list of images, but no stack frames"
         self.is_refused([path, "shipped"], self.unread(why))
 
     def test_a_report_that_is_not_there(self) -> None:

@@ -71,7 +71,7 @@ class Folders(GroupCase):
         os.mkfifo(self.folder / "in/pipe.crash")
         made, came = self.made("in")
         self.assertEqual((came.status, list(made), len(came.error_lines)), (0, ["a.crash"], 2), came.errors)
-        said = "symbolicate-report: in/notes.txt: no report that is read here: no stack frames"
+        said = "symbolicate-report: in/notes.txt: no report of a known kind: no stack frames"
         self.grouped(["in", none, "shipped"], f"1\t{COPY}\tin/a.crash", status=2, said=[said])
 
     def test_one_that_is_refused(self) -> None:
@@ -80,8 +80,8 @@ class Folders(GroupCase):
         self.file("in/b.ips", b"")
         self.file("in/c", source("crash")[:200])
         said = [
-            "symbolicate-report: in/b.ips: no report that is read here: no stack frames",
-            "symbolicate-report: in/c: no report that is read here: no stack frames; "
+            "symbolicate-report: in/b.ips: no report of a known kind: no stack frames",
+            "symbolicate-report: in/c: no report of a known kind: no stack frames; "
             "it ends at line 5, byte 200, within a line",
         ]
         self.grouped(["in", "shipped"], f"1\t{COPY}\tin/a.crash", status=2, said=said)

@@ -244,7 +244,7 @@ class ReadSlices(VouchedCase):
 class OtherArchives(VouchedCase):
     """Archives that were written since their index was, and indexes that are damaged."""
 
-    since = "site.sym was written after site.sym.idx, which does not vouch for it: run symarch-keep check site.sym"
+    since = "site.sym was written after site.sym.idx, which is stale: run symarch-keep check site.sym"
     since += ", and if that ends with 0 symarch-keep fold site.sym, which indexes it anew"
 
     def is_not_asked(self, why: str, archive: str = "site.sym") -> None:

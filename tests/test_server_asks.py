@@ -90,7 +90,7 @@ class Reports(ServerCase):
 
     def test_what_is_no_report(self) -> None:
         server = self.serve()
-        said = "report: no report that is read here: no stack frames"
+        said = "report: no report of a known kind: no stack frames"
         self.refuses(server.ask("/reports", b"nothing of the kind\n"), 422, said)
         self.refuses(server.ask("/reports", b""), 400, "the body is empty")
         archive = self.room.archive.read_bytes()

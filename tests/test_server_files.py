@@ -73,7 +73,7 @@ class Slices(ServerCase):
     def test_what_is_not_there(self) -> None:
         server = self.serve()
         absent = "00112233445566778899aabbccddeeff"
-        said = f"nothing answers as debuginfo of {uuid.UUID(absent)}"
+        said = f"no slice answers as debuginfo of {uuid.UUID(absent)}"
         self.refuses(server.ask(f"/buildid/{absent}/debuginfo"), 404, said)
         for path in (f"/buildid/{FIRST}/debuginfo", "/buildid/xyz/debuginfo", f"/buildid/{HEX}0/debuginfo"):
             self.refuses(server.ask(path), 400)

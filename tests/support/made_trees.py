@@ -17,8 +17,8 @@ def part(number: int, begin: int, end: int, size: int) -> str:
     return f": part {number} is bytes {begin} to {end} by the table, and the file has {size}"
 
 
-HEADER = "its header takes 32 bytes, and"
-TABLE = ": its table takes 48 bytes, and the file has 47"
+HEADER = "its header needs 32 bytes, and"
+TABLE = ": its table needs 48 bytes, and the file has 47"
 OUTSIDE = f"Symbols(SymbolsOutside)){promised(4112, 80)}"
 
 
@@ -95,7 +95,7 @@ def refused_files(room: Room) -> List[str]:
         "symbols": (symbols_outside(42), f"Slice(0, {OUTSIDE}"),
         "part": (universal([thirty_two_bit(), whole[:50]]), f"Slice(1, Image(CommandsOutside)){promised(56, 50)}"),
         "fat-head": (
-            bytes.fromhex("cafebabe0000"), "Fat(HeaderTruncated): its header takes 8 bytes, and the file has 6"
+            bytes.fromhex("cafebabe0000"), "Fat(HeaderTruncated): its header needs 8 bytes, and the file has 6"
         ),
         "fat-count": (struct.pack(">II", 0xCAFEBABE, 33) + bytes(33 * 20), "Fat(TooManyArches(33))"),
         "fat-table": (struct.pack(">II", 0xCAFEBABE, 2) + bytes(39), f"Fat(TableTruncated){TABLE}"),

@@ -80,8 +80,8 @@ def refuse_candidates(number: str, kind: str, found: Members) -> None:
     if some is None:
         return
     if not some:
-        other = ", but for something else" if found["has_others"] else ""
-        raise Refusal(404, f"nothing answers as {kind} of {number}{other}")
+        other = ", only as something else" if found["has_others"] else ""
+        raise Refusal(404, f"no slice answers as {kind} of {number}{other}")
     archs = sorted({one["arch"] for one in some})
     lines = [f"{one['arch']} {one['digest']}" for one in some]
     how = "?arch= chooses one" if len(archs) == len(some) else "?digest= chooses one"

@@ -35,7 +35,7 @@ def form(job: Members, _: List[int]) -> Members:
         except HTTPException as error:
             return {"status": 3, "code": error.code, "bad": (error.name or "").lower()}
         except (LookupError, ValueError):
-            return {"status": 3, "code": 400, "bad": "the form has another form"}
+            return {"status": 3, "code": 400, "bad": "the form cannot be read"}
     if file is None and text is None:
         return {"status": 3, "code": 400, "bad": "there is no report: choose a file, or paste one"}
     return {"status": 0, "file_name": file.filename if file is not None else None}

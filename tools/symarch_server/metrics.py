@@ -10,7 +10,7 @@ from typing import Dict, Iterator, List, Mapping, Tuple
 # The upper ends of the classes of seconds.
 BUCKETS = (0.01, 0.03, 0.1, 0.3, 1.0, 3.0, 10.0, 30.0)
 NUMBERS = {
-    "images": "slices that are no companions",
+    "images": "slices of images",
     "companions": "slices of dSYMs",
     "retirements": "slices that were withdrawn",
     "conflicts": "UUIDs and architectures for which several slices answer",

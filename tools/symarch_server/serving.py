@@ -93,7 +93,7 @@ class RequestParser(HTTPRequestParser):
             super().parse_header(header_plus)
         except ValueError:
             # Of a number of thousands of digits, or an address that is none.
-            raise ParsingError("the head has another form") from None
+            raise ParsingError("the head of the request is malformed") from None
         self.is_upload = self.may_upload()
         self.deadline = time.monotonic() + (OF_UPLOAD if self.is_upload else OF_BODY)
         self.adj = copy.copy(self.adj)
@@ -125,7 +125,7 @@ class RequestParser(HTTPRequestParser):
         more = max(self.body_bytes_received - SMALL, 0) - self.counted[0]
         self.counted[0] += more
         if more and self.held.add(more) > MOST_HELD and not self.error:
-            self.error, self.completed = Full("other reports are being received: ask again"), True
+            self.error, self.completed = Full("other reports are being received: repeat the request"), True
 
 
 class Channel(HTTPChannel):

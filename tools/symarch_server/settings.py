@@ -16,8 +16,8 @@ from symarch_tools.console.version import PrintVersion
 
 NAME = "symarch-server"
 DESCRIPTION = """\
-Serves an archive that symarch-keep keeps over HTTP: to browsers, curl, lldb, clients of debuginfod, Symbolicator and
-profilers. OPERATING.md describes the requests.
+Serves over HTTP an archive that symarch-keep keeps: to browsers, curl, lldb, clients of debuginfod, Symbolicator and
+profilers. docs/OPERATING.md describes the requests.
 
 Examples:
 
@@ -26,7 +26,7 @@ Examples:
   symarch-server --listen 10.0.0.5:8080 --host builds --readers readers builds.sym
                                                              serves it to clients with a token in the file readers
 
-Each answer is that of ARCHIVE, its levels, indexes and names of builds as they are at that moment. The server writes
+Each answer is from ARCHIVE, its levels, indexes and names of builds as they are at that moment. The server writes
 only ARCHIVE.missing, unless --uploads lets clients add. SIGTERM ends it after the answers that it has begun. The log is
 standard error.
 

@@ -97,7 +97,7 @@ class Site:
         try:
             answer, descriptors = (pool or self.workers).ask(asked)
         except Busy:
-            raise Refusal(503, "all workers are busy: ask again", headers={"Retry-After": "10"}) from None
+            raise Refusal(503, "all workers are busy: repeat the request", headers={"Retry-After": "10"}) from None
         except WorkerEnded as ended:
             raise Refusal(503, str(ended)) from None
         try:
@@ -116,7 +116,7 @@ class Site:
         """Counts bytes of a file that is sent."""
         with self.lock:
             if self.sending and self.sending + size > MOST_SENDING:
-                raise Refusal(503, "others are being sent much: ask again", headers={"Retry-After": "10"})
+                raise Refusal(503, "other answers are being sent: repeat the request", headers={"Retry-After": "10"})
             self.sending += size
 
     def end_sending(self, size: int) -> None:

@@ -28,16 +28,16 @@ Adds the Mach-O images and dSYMs of files and folders to ARCHIVE, and makes ARCH
   symarch-keep add --dsyms-only builds.sym dSYMs.zip
   symarch-keep add builds.sym - < spool.app.dSYM/Contents/Resources/DWARF/spool
 
-It finds each 64-bit little-endian slice with a UUID by its first bytes, at any depth of a PATH. It follows links to
-files, and adds a file of several names once. It passes over other files, links to folders and broken links: it counts
-them, and names them with --verbose. The status is 1 only if no PATH has an image. A file that cannot be read, that
-changes meanwhile or that symarch refuses is reported, and the others are added.
+It finds each slice, an image or dSYM of one architecture, 64-bit and little-endian, with a UUID, by its first bytes, at
+any depth of a PATH. It follows links to files, and adds a file of several names once. It passes over other files, links
+to folders and broken links: it counts them, and names them with --verbose. The status is 1 only if no PATH has an
+image. A file that cannot be read, that changes meanwhile or that symarch refuses is reported, and the others are added.
 
 A PATH `-` is standard input. A zip file or a gzipped tar file is read as a folder, at most three levels deep, if it is
 a PATH or its name ends in .zip, .ipa, .tar.gz or .tgz. It may unpack to a hundred times its length plus 64 MiB; the
 rest is not added. In a zip file a member that has more than 4294967295 bytes, or is encrypted, cut or damaged, is
-refused alone; a tar file is read up to such a member. Packed files in others need temporary files, and so do images
-that are not in the order of their UUIDs.
+refused alone; a tar file is read up to such a member. Packed files in others need temporary files, and so do packed
+images that are not in the order of their UUIDs.
 
 Each slice gets a line, in the order in which they were found:
 

@@ -25,7 +25,7 @@ archive, and works on a disk that is read-only.
   changed retired UUID ARCH DIGEST OFFSET FILE    the retirement has other bytes
   changed table UUID ARCH DIGEST OFFSET FILE      the table of the slice in the index FILE has other bytes,
                                                   or there is none
-  changed ends FILE                               the first 8 or the last 9 bytes are others
+  changed ends FILE                               the first 8 or the last 9 bytes changed
   lost UUID ARCH DIGEST                           the slice was there, and neither it nor its retirement is
   lost retired UUID ARCH DIGEST                   the retirement was there, and is not
   damaged FILE                                    a file next to ARCHIVE is not as symarch-keep wrote it
@@ -113,7 +113,7 @@ def carry_out(arguments: argparse.Namespace) -> int:
             screen.line(advice(archive, file))
     for path in map(shown, strangers):
         screen.line(f"{path}: give it another name; or, if it is a level, call `symarch index {path} {path}.idx`")
-    told = "all is there that was known" if others else "all is as it was"
+    told = "everything that was known is there" if others else "nothing changed"
     counts = f"{len(content.held)} slices, {len(content.retired)} retirements"
     wrong = f"{len(lines)} changed, lost, damaged or unknown"
     if lines:

@@ -10,7 +10,7 @@ from .arguments import define_archive, uuid_of
 DESCRIPTION = """\
 Prints the slices and retirements of UUID:
 
-  ARCH image DIGEST      a slice that is no companion
+  ARCH image DIGEST      a slice of an image
   ARCH dsym DIGEST       a slice of a dSYM
   ARCH retired DIGEST    a retirement
   ARCH conflict N        N slices answer for this UUID and ARCH
@@ -19,7 +19,7 @@ For example:
 
   symarch-keep find builds.sym 4c4c4419-5555-3144-a1d2-4341c97782f0
 
-If it has to read a slice, and that changed since it was added, it prints only this, and the status is 2."""
+If it has to read a slice, and that changed since it was added, it prints only this fault, and the status is 2."""
 USAGE = "symarch-keep find [--json] ARCHIVE UUID"
 ABOUT = "print the slices of a UUID"
 KEYS = ("found",)

@@ -21,8 +21,8 @@ from ..store.losses import record_members
 from .arguments import define_archive, digest_of, uuid_of
 
 DESCRIPTION = """\
-Makes dSYM bundles of UUIDs in FOLDER, with the bytes that were added: NAME.dSYM, and next to it NAME, of the slices
-that are no companions. NAME is the first name under which the slice itself was added; or the UUID, if there is no such
+Makes dSYM bundles of UUIDs in FOLDER, with the bytes that were added: NAME.dSYM of the slices of dSYMs, and next to it
+NAME of those of images. NAME is the first name under which the slice itself was added; or the UUID, if there is no such
 name, or one with a / or more than 250 bytes, which no file can have.
 
   symarch-keep get builds.sym 4c4c4419-5555-3144-a1d2-4341c97782f0 --to debug
@@ -44,7 +44,7 @@ KEYS = ("got", "known", "conflict", "absent")
 
 def define(parser: argparse.ArgumentParser) -> None:
     parser.add_argument("--to", metavar="FOLDER", required=True, help="the folder in which they are made")
-    parser.add_argument("--digest", metavar="DIGEST", action="append", default=[], help="the one of several slices")
+    parser.add_argument("--digest", metavar="DIGEST", action="append", default=[], help="which one of several slices")
     define_archive(parser)
     parser.add_argument("uuids", metavar="UUID", nargs="+")
 

@@ -20,7 +20,7 @@ the name for each symbol that has NAME in it.
   symarch-keep name builds.sym -- '-[Spool copyBody:]'
   symarch-keep name --part builds.sym copy
 
-If none has it, but one with a `_` before it, standard error names that. All slices are read; one that changed since it
+If no symbol has NAME, but one has _NAME, standard error reports that. All slices are read; one that changed since it
 was added is named, and gets no line."""
 USAGE = "symarch-keep name [--json] [--part] ARCHIVE NAME"
 ABOUT = "find a symbol by its name"

@@ -285,6 +285,6 @@ def carry_out(arguments: argparse.Namespace) -> int:
     forget_changed(archive.path)
     screen.show(lines)
     still = sum(line.startswith("changed ") for line in lines)
-    told = f"{len(lines) - still} repaired, {still} still changed" if lines else "all is as it was"
+    told = f"{len(lines) - still} repaired, {still} still changed" if lines else "nothing changed"
     screen.line(f"{shown(archive.path)}: {told}")
     return screen.status(2 if still else 0)

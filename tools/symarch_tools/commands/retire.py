@@ -28,7 +28,7 @@ No lookup finds the slice any more. The retirement reaches each site by `exchang
 the slice is not there, nothing is retired, and the status is 1, unless --before-it-comes is given.
 
 The line is `retired UUID ARCH DIGEST`, or `known UUID ARCH DIGEST` if it was retired before. With --app each slice gets
-one before anything is written:
+a line before anything is written:
 
   retiring UUID ARCH DIGEST DAY APP VERSION BUILD NAME
   staying UUID ARCH DIGEST DAY APP VERSION BUILD NAME     another app or build has it too
@@ -45,7 +45,7 @@ ABOUT = "withdraw a slice, or builds of an app, for good"
 
 
 def define(parser: argparse.ArgumentParser) -> None:
-    parser.add_argument("--before-it-comes", action="store_true", help="retire a slice that is not there")
+    parser.add_argument("--before-it-comes", action="store_true", help="retire the slice even if it is not there")
     parser.add_argument("--dry-run", action="store_true", help="print the result, but write nothing")
     parser.add_argument("--app", metavar="ID", help="the bundle identifier of an app, as `list` prints it")
     parser.add_argument("--before", metavar="DATE", help="its builds from before this day of UTC, as YYYY-MM-DD")

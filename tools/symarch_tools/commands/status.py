@@ -24,7 +24,7 @@ DESCRIPTION = """\
 Prints the content of ARCHIVE in numbers, and the sites with which it exchanges. It reads the indexes; `check` reads
 the whole archive.
 
-  images N            slices that are no companions
+  images N            slices of images
   companions N        slices of dSYMs
   retirements N       slices that were withdrawn
   conflicts N         UUIDs and architectures for which several slices answer

@@ -17,10 +17,10 @@ from ..store.asking import Asked, AskedCommand, NoLines, opened_archive
 from .arguments import arch_of, define_archive, number_of, uuid_of
 
 DESCRIPTION = """\
-Prints the symbol nearest to each ADDRESS of the image of UUID and ARCH: the address, and
+Prints a line for each ADDRESS in the image of UUID and ARCH: the address, and
 
   NAME + OFFSET (SEG,SECT)    the symbol nearest to it
-  -     it has none: it is in no section, or below the section's first symbol
+  -     no symbol is nearest: it is in no section, or below the section's first symbol
   ?     no slice answers; standard error names other architectures of UUID
   !N    N slices answer, each with a line below
 
@@ -30,7 +30,7 @@ For example, of an image that was loaded at 0x104d38000, and by an offset of a r
   symarch-keep symbolicate --offset --demangle builds.sym 4c4c4419-5555-3144-a1d2-4341c97782f0 arm64 1040
 
 Numbers are hexadecimal, unless an option changes that; without --load and --offset an ADDRESS is one of the file, as
-`name` prints it. - means the addresses on standard input.
+`name` prints it. The ADDRESS - means those on standard input.
 The status is 1 unless each address has one symbol."""
 OPTIONS = "[--json] [--load HEX | --offset] [--decimal] [--lines] [--demangle]"
 USAGE = f"symarch-keep symbolicate {OPTIONS} ARCHIVE UUID ARCH ADDRESS..."

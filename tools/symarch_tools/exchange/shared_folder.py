@@ -180,7 +180,7 @@ class SharedFolder:
     # ---- what comes
 
     def check(self, one: Sent) -> int:
-        """Raises Unfit unless a file is one that its site sent here, as its signature says. Returns its length."""
+        """Raises Unfit unless a file is one that its site sent here, as its signature states. Returns its length."""
         size = regular_size(self.at(one.name))
         if self.senders:
             self.right[one.name] = self.right_signature(one.name, self.statement(one.name, size), self.senders)

@@ -74,8 +74,8 @@ class Statement(NamedTuple):
         lines, wanted = text.split(b"\n"), self.text().split(b"\n")
         for line, its in zip(lines, wanted):
             if line != its:
-                return f"its signature says `{shown(line[:MOST_SHOWN])}`, and not `{its.decode()}`"
-        return "its signature has another form"
+                return f"its signature has `{shown(line[:MOST_SHOWN])}`, and not `{its.decode()}`"
+        return "its signature is malformed"
 
 
 def folder_in(signature: bytes) -> str:

@@ -54,7 +54,7 @@ def look_of(front: bytes) -> Optional[str]:
     if is_html(front):
         return f"a page of HTML, {NO_WORD}"
     if REPORT.match(front):
-        return "a text as a report begins, which `symbolicate-report` reads"
+        return "a text that begins as a report, which `symbolicate-report` reads"
     return next((look for begins, look in BEGINNINGS if front.startswith(begins)), None)
 
 

@@ -86,7 +86,7 @@ class NamedArchive:
                     return
         if self.file.is_cut():
             raise cut_short(self.path)
-        why = f"{shown(self.path)} was written after {shown(self.beside(INDEX))}, which does not vouch for it"
+        why = f"{shown(self.path)} was written after {shown(self.beside(INDEX))}, which is stale"
         self.refuse(why, f", and if that ends with 0 symarch-keep fold {shown(self.kept)}, which indexes it anew")
 
     def make_index(self, program: FramesProgram, folder: str) -> None:

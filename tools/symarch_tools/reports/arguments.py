@@ -43,8 +43,8 @@ folder or zip file of these. A frame with one answer gets its name and offset, i
 inlined there; the rest is printed as it is. The last line on standard error counts the frames, and prints for each
 image whether its dSYM, the image or nothing answered. docs/OPERATING.md describes the details.
 
-An ARCHIVE is searched with the files that `symarch-keep` has next to it, and several archives as their join. An index
-vouches for each name that it finds.
+An ARCHIVE is searched with the files that `symarch-keep` has next to it, and several archives as their join. A name
+from an index is printed only if its bytes have the SHA-256 that the index states.
 
 The program `symarch` is the one that SYMARCH names; otherwise the one that ./symarch built, or that was installed with
 this tool; otherwise `symarch` in PATH. The tool builds none.

@@ -142,7 +142,7 @@ class Report:
         has_images = has_images or ("a list of images, but " if LISTING.search(self.data) else "")
         if not self.notes and not has_images and BEGINNING.search(self.data, 0, MOST_OF_BEGINNING):
             self.note(f"it ends at {self.last()}, before its first frame")
-        return self.refusal(f"no report that is read here: {has_images}no stack frames")
+        return self.refusal(f"no report of a known kind: {has_images}no stack frames")
 
     def note(self, said: str, place: Optional[int] = None) -> None:
         """Says what is wrong, at a place that stands for {} there. Of many faults the first are said."""

@@ -103,7 +103,7 @@ def promised(one: Slice) -> str:
         file.seek(one.offset)
         front = file.read(min(one.length, HEADER.size))
         if len(front) < HEADER.size:
-            return f": its header takes {HEADER.size} bytes, and there are {len(front)}"
+            return f": its header needs {HEADER.size} bytes, and there are {len(front)}"
         *_, count, size = HEADER.unpack(front)
         end, commands = HEADER.size + size, file.read(min(size, one.length - len(front), MOST_OF_COMMANDS))
         for command, at, _ in commands_in(commands, count):
@@ -126,4 +126,4 @@ def promised_by_table(reason: str, one: FaultyFile) -> str:
         return f": part {outside[1]} is bytes {offset} to {offset + length} by the table{there}"
     is_table = len(one.front) >= FAT_HEADER.size
     end = end_of_table(one.front) if is_table else FAT_HEADER.size
-    return f": its {'table' if is_table else 'header'} takes {end} bytes{there}" if one.length < end else ""
+    return f": its {'table' if is_table else 'header'} needs {end} bytes{there}" if one.length < end else ""
