@@ -3,7 +3,7 @@ import argparse
 import importlib
 import os
 import sys
-from typing import Any, Dict, List, NoReturn, Optional, Sequence, Set
+from typing import Any, List, NoReturn, Optional, Sequence, Set
 
 from .commands.order import refuse_order
 from .console.escapes import shown
@@ -11,8 +11,8 @@ from .console.faults import CutShort, Failed, system_text
 from .console.progress import progress
 from .console.screen import Screen
 from .console.signals import Stopped, signals
+from .console.streams import columns
 from .console.unforeseen_faults import DEBUG, HELP, debugging, guarded, unforeseen
-from .console.version import PrintVersion
 from .store.file_names import is_archive
 
 DESCRIPTION = """\
@@ -114,47 +114,72 @@ class CommandParser(argparse.ArgumentParser):
             sys.exit(screen.status())
 
 
-def parse(arguments: Sequence[str]) -> argparse.Namespace:
-    shape = argparse.RawDescriptionHelpFormatter
+def shape(prog: str) -> argparse.HelpFormatter:
+    """The form of a help. argparse makes one for each argument, and would import other modules to find the width."""
+    return argparse.RawDescriptionHelpFormatter(prog, width=columns() - 2)
+
+
+def whole_parser(arguments: Sequence[str]) -> CommandParser:
+    """The parser of calls that begin with no command, so that all commands are listed; or else only the version is
+    printed."""
+    from .console.version import PrintVersion
+
     parser = CommandParser("symarch-keep", description=DESCRIPTION, formatter_class=shape, allow_abbrev=False)
     parser.add_argument(VERSION, action=PrintVersion, nargs=0, help="print the version and exit")
     # It is taken out before, since it may be anywhere.
     parser.add_argument(DEBUG, action="store_true", help=HELP)
     commands = parser.add_subparsers(metavar="COMMAND", required=True)
-    parsers: Dict[str, CommandParser] = {}
-    first = arguments[0] if arguments else ""
-    for name in [first] if first in COMMANDS else () if first == VERSION else COMMANDS:
-        module = importlib.import_module(f".commands.{name}", __package__)
-        parsers[name] = its = commands.add_parser(
-            name,
-            help=module.ABOUT,
-            usage=module.USAGE,
-            description=module.DESCRIPTION,
-            formatter_class=shape,
-            allow_abbrev=False,
-        )
-        if name not in ASKING:
-            its.add_argument("--quiet", action="store_true", help=QUIET)
-            its.add_argument("--wait", metavar="SECONDS", help=WAIT)
-        if name not in WITHOUT_JSON:
-            its.add_argument("--json", action="store_true", help=JSON)
-        module.define(its)
-        its.set_defaults(carry_out=module.carry_out, keys=getattr(module, "KEYS", ()))
-    if first in parsers:
-        parsers[first].refuse_options(arguments[1:])
-    elif first and not first.startswith("-"):
-        parser.error(f"`{shown(first)}` is no command of symarch-keep: expected {', '.join(COMMANDS)}")
-    else:
-        parser.refuse_options(arguments)
-    found, others = parser.parse_known_args(arguments)
+    for name in () if arguments[:1] == [VERSION] else COMMANDS:
+        commands.add_parser(name, help=module_of(name).ABOUT)
+    return parser
+
+
+def module_of(name: str) -> Any:
+    return importlib.import_module(f".commands.{name}", __package__)
+
+
+def parser_of(name: str) -> CommandParser:
+    """The parser of a command."""
+    module = module_of(name)
+    more = {"usage": module.USAGE, "description": module.DESCRIPTION, "formatter_class": shape}
+    parser = CommandParser(f"symarch-keep {name}", allow_abbrev=False, **more)
+    if name not in ASKING:
+        parser.add_argument("--quiet", action="store_true", help=QUIET)
+        parser.add_argument("--wait", metavar="SECONDS", help=WAIT)
+    if name not in WITHOUT_JSON:
+        parser.add_argument("--json", action="store_true", help=JSON)
+    module.define(parser)
+    parser.set_defaults(carry_out=module.carry_out, keys=getattr(module, "KEYS", ()))
+    return parser
+
+
+def parse(arguments: Sequence[str]) -> argparse.Namespace:
+    """What a call asks for. Only the module of its command is imported."""
+    name, more = (arguments[0], arguments[1:]) if arguments else ("", [])
+    if name not in COMMANDS:
+        refuse_command(arguments)
+    parser = parser_of(name)
+    parser.refuse_options(more)
+    found, others = parser.parse_known_args(more)
     if "more" in found:
         # Arguments that follow an option, which the module takes for others.
         found.more += others
     elif others:
-        parsers[first].error(f"`{shown(others[0])}` is one argument too many")
-    options = parsers[first].options_in(arguments[1:])
-    found.refuse_order = lambda: refuse_order(first, options, parsers[first].names_in(found))
+        parser.error(f"`{shown(others[0])}` is one argument too many")
+    options = parser.options_in(more)
+    found.refuse_order = lambda: refuse_order(name, options, parser.names_in(found))
     return found
+
+
+def refuse_command(arguments: Sequence[str]) -> NoReturn:
+    """Prints what a call asks for that begins with no command, or else that it does not."""
+    parser = whole_parser(arguments)
+    if arguments[:1] and arguments[0].startswith("-"):
+        parser.refuse_options(arguments)
+    if arguments[:1] and (arguments[0] == "--" or not arguments[0].startswith("-")):
+        parser.error(f"`{shown(arguments[0])}` is no command of symarch-keep: expected {', '.join(COMMANDS)}")
+    parser.parse_args(arguments)
+    parser.error("COMMAND is missing")
 
 
 def open_standard_streams() -> None:

@@ -7,13 +7,13 @@ import time
 from dataclasses import dataclass
 from typing import Callable, Union
 
+from .streams import COLUMNS
+
 # The line comes after so many seconds, and is written anew as often. A stage that goes on for so long has a speed.
 LEAST, PAUSE, LEAST_OF_STAGE = 2.0, 0.2, 1.0
 # What takes longer than so many seconds is not known yet.
 MOST_LEFT = 100 * 3600
 WIPE = "\r\x1b[K"
-# How many columns a terminal has that does not say it.
-COLUMNS = 80
 UNITS = ((10**12, "TB", 1), (10**9, "GB", 1), (10**6, "MB", 0), (10**3, "kB", 0))
 
 

@@ -5,12 +5,11 @@ from __future__ import annotations
 import argparse
 import os
 import re
-import shlex
 from dataclasses import dataclass
 from typing import Any, Dict, List, NoReturn, Optional, Sequence, Tuple
 
 from ..console.escapes import line_shown, shown
-from ..console.streams import printing, say
+from ..console.streams import columns, printing, say
 from ..console.unforeseen_faults import DEBUG, HELP
 from ..console.version import PrintVersion
 from ..store.file_names import beginning, is_archive, is_zip_file
@@ -98,8 +97,12 @@ class Once(argparse.Action):
         setattr(namespace, self.dest, True if self.nargs == 0 else value)
 
 
+def shape(prog: str) -> argparse.HelpFormatter:
+    """The form of a help. argparse makes one for each argument, and would import other modules to find the width."""
+    return argparse.RawDescriptionHelpFormatter(prog, width=columns() - 2)
+
+
 def parser_of_options() -> ReportParser:
-    shape = argparse.RawDescriptionHelpFormatter
     parser = ReportParser(NAME, usage=USAGE, description=DESCRIPTION, formatter_class=shape, allow_abbrev=False)
     parser.add_argument("names", nargs="*", metavar="REPORT... ARCHIVE...", help=REPORTS)
     for option, (field, help) in FLAGS.items():
@@ -223,6 +226,8 @@ class Options:
     def fault_of_names(self, names: Sequence[str]) -> Optional[str]:
         """What is wrong with the reports and archives, and what to type, if something is."""
         if names and is_dsym(names[-1]):
+            import shlex
+
             path = names[-1].rstrip("/")
             typed = line_shown(shlex.quote(path))
             return f"{shown(path)} is a dSYM: run symarch-keep add builds.sym {typed}, then name builds.sym"
@@ -252,6 +257,8 @@ class Options:
 
     def line(self, names: Sequence[str], more: Sequence[str] = ()) -> str:
         """The line to type for these reports and archives, with more options."""
+        import shlex
+
         options = [word for one in self.images for word in ("--image", image_word(one))]
         options += [word for one in self.builds for word in ("--build", "/".join(one))]
         options += [*self.given(), *(["--out", self.out] if self.out is not None else []), *more]

@@ -14,7 +14,6 @@ from ..formats.builds import Builds
 from ..formats.contents import EMPTY, MAGICS, Content
 from ..formats.files import remove, size_of, write_synced
 from ..formats.indexes import Index, held_against, index_at, index_by, index_of
-from ..formats.tables import Tables, write_index
 from .archive_file import ArchiveFile
 from .file_names import INDEX, LOCK, NEXT_INDEX, NEXT_SUM, NO_FILE, SUM, no_files_beside, refuse_other, refuse_part
 from .folder import ArchiveFolder, watched
@@ -136,6 +135,8 @@ class Archive:
                 screen.line(f"{shown(file.beside(INDEX))} was of another kind, and is made anew")
             file.index, changed, more = held_against(file.content, made)
             if changed:
+                from ..formats.tables import Tables, write_index
+
                 path = os.path.join(room, file.name + b".held")
                 file.index = write_index(path, file.index, Tables([before, made]))
             file.content, lost = file.index.content(), lost.joined(more)
@@ -153,7 +154,7 @@ class Archive:
     def indexed(file: ArchiveFile, room: bytes, program: Program, screen: Screen) -> Index:
         """The index of a file; of one of version 1 that of version 2 of it, which is made in the room."""
         if not file.exists():
-            return write_index(os.path.join(room, file.name + b".idx"), index_of([]), Tables([]))
+            return empty_index(room, file.name + b".idx")
         path = file.path
         if file.is_of_version_1():
             screen.begin("migrating", file.size())
@@ -218,7 +219,7 @@ class Archive:
             return
         try:
             write_synced(os.path.join(room, b"new"), [EMPTY])
-            index = write_index(os.path.join(room, b"new.idx"), index_of([]), Tables([]))
+            index = empty_index(room, b"new.idx")
             self.folder.replace(room, self.files.today, index, [], screen)
         except OSError as error:
             self.say_what_is_left(self.files.today, error, screen)
@@ -253,6 +254,13 @@ class Archive:
 def is_to_be_indexed(file: ArchiveFile) -> bool:
     """Whether a file has no index with tables, as symarch-keep 2.2 left it."""
     return file.exists() and not file.has_index()
+
+
+def empty_index(room: bytes, name: bytes) -> Index:
+    """The index of an archive without a record, under a name in a room."""
+    from ..formats.tables import Tables, write_index
+
+    return write_index(os.path.join(room, name), index_of([]), Tables([]))
 
 
 def index_made(path: bytes, room: bytes, name: bytes, program: Program, screen: Screen) -> Index:

@@ -1,7 +1,6 @@
 """The names of the files of an archive. A level is a file ARCHIVE.N next to which an index is stored. Another file of
 such a name, as a copy that somebody made, is left alone, and so is one with a lock: an archive of its own."""
 import os
-import shlex
 import stat
 from typing import Iterator, List, Optional, Set
 
@@ -145,6 +144,8 @@ def refuse_other(path: bytes, place: bytes, is_made: bool) -> None:
     from .slices import is_dsym
 
     if is_dsym(path) or is_dsym(place):
+        import shlex
+
         name = path.rstrip(b"/")
         typed = shown(shlex.quote(os.fsdecode(name)))
         raise Failed(f"{shown(name)} is a dSYM: run symarch-keep add builds.sym {typed}, then name builds.sym")
