@@ -181,12 +181,13 @@ class TwoSites(RoomCase):
         same("answers", self.west.answers(self.east), [])
 
     def test_a_byte_that_changes_as_an_answer_is_joined(self) -> None:
-        """In the copy of the answer after it was read, or in the new file before that is read back: the archive is as
-        it was, and the next exchange joins the answer."""
+        """In the copy of the answer after it was read, before the program tests that or after it, or in the new file
+        before that is read back: the archive is as it was, and the next exchange joins the answer."""
         old, new = image(1), image(2, more=bytes(100))
         at = archive([new]).index(new) + len(new) - 1
-        for command in ("find", "merge"):
-            east, west = (Site(self.room, f"{name}{command}", f"shared-{command}") for name in ("east", "west"))
+        for when, command in (("before", "find"), ("after", "find"), ("after", "merge")):
+            name = f"{when}-{command}"
+            east, west = (Site(self.room, f"{one}-{name}", f"shared-{name}") for one in ("east", "west"))
             east.add(old)
             west.add(new)
             east.exchange()
@@ -194,8 +195,9 @@ class TwoSites(RoomCase):
             (answer,) = west.answers(east)
             names = "answer-1" if command == "find" else "new grown"
             changing = f'printf x | dd of="$it" bs=1 seek={at} conv=notrunc status=none'
-            change = f'for it in {names}; do [ ! -e "$it" ] || {changing}; done'
-            script = f'"$symarch" "$@"\nstatus=$?\n[ "$1" != {command} ] || {{ {change}; }}\nexit $status'
+            change = f'[ "$1" != {command} ] || for it in {names}; do [ ! -e "$it" ] || {changing}; done'
+            steps = ['"$symarch" "$@"\nstatus=$?', change]
+            script = "\n".join([*(reversed(steps) if when == "before" else steps), "exit $status"])
             _, errors = east.exchange(status=4, environment=self.room.program(script))
             told = f"{east.folder}: {answer}: changed while it was read; the archive is as it was"
             same("errors", errors, [f"symarch-keep: {told}"])
