@@ -2,15 +2,15 @@
 together."""
 import itertools
 import struct
-from typing import Dict, Iterable, List, NamedTuple, Optional, Sequence
+from typing import Dict, Iterable, List, NamedTuple, Optional, Sequence, Tuple
 
 from .contents import ADMISSION, END, RETIREMENT, Content, Fault, Reader, Source, Write, entry_of
 from .images import U32_MAX, Image, image_of, sha, slice_of
-from .pages import NO_CLAIM, Claim, claim_at, stored
+from .pages import NO_CLAIM, Claim, claim_at, root_of, stored
 from .tables import table_of
 
 IDX, EARLIER_IDX = b"MSYMIDX2", b"MSYMIDX1"
-PLACED_LEN, ENTRY_LEN, END_LEN = 74, 122, 41
+PLACED_LEN, ENTRY_LEN, END_LEN = 74, 122, 57
 
 
 # ---- made
@@ -22,8 +22,13 @@ def placed_entry(record: bytes, at: int) -> bytes:
     return entry_of(record) + bytes([is_companion]) + struct.pack(">QQ", at, len(record))
 
 
+def numbers_of(entries: Sequence[bytes]) -> Tuple[int, int]:
+    """How many of the entries are retirements, and how long their archive is."""
+    return sum(it[0] == RETIREMENT for it in entries), 17 + sum(map(length_in, entries))
+
+
 def end_of(entries: Sequence[bytes]) -> bytes:
-    return bytes([END]) + struct.pack(">Q", len(entries)) + sha(b"".join(entries))
+    return bytes([END]) + struct.pack(">3Q", len(entries), *numbers_of(entries)) + root_of(b"".join(entries))
 
 
 def index_stream(source: Source, write: Write) -> int:
@@ -46,7 +51,7 @@ def index_stream(source: Source, write: Write) -> int:
             done = claim.end
         entries.append(placed_entry(record, at) + claim.bytes())
     entries.sort()
-    write(b"".join(entries) + end_of(entries))
+    write(stored(b"".join(entries)) + end_of(entries))
     return len(entries)
 
 
@@ -129,7 +134,7 @@ def size_of(placed: Placed) -> int:
 
 
 def read_index(placed: Placed) -> List[bytes]:
-    """The entries of an index, which is read from its end: its magic, the end record and the entries."""
+    """The entries of an index, which is read from its end: its magic, the end record and the stored entries."""
     size = size_of(placed)
     beginning = part(placed, 0, min(8, size))
     if beginning == EARLIER_IDX:
@@ -142,19 +147,21 @@ def read_index(placed: Placed) -> List[bytes]:
     end = part(placed, at, END_LEN)
     if end[0] != END:
         raise Fault("Truncated", at)
-    count = int.from_bytes(end[1:9], "big")
-    if len(IDX) + ENTRY_LEN * count + END_LEN > size:
+    count, *numbers = struct.unpack(">3Q", end[1:25])
+    claim = Claim(0, ENTRY_LEN * count, end[25:])
+    if len(IDX) + claim.stored + END_LEN > size or numbers[0] > count:
         raise Fault("BadCount", at)
-    start = at - ENTRY_LEN * count
-    text = part(placed, start, ENTRY_LEN * count)
-    if sha(text) != end[9:]:
+    start, first = at - claim.stored, at - claim.size
+    found = part(placed, start, claim.stored)
+    text = found[first - start :]
+    if stored(text) != found or root_of(text) != claim.root:
         raise Fault("BadDigest", start)
     entries = [text[it : it + ENTRY_LEN] for it in range(0, len(text), ENTRY_LEN)]
     for number, entry in enumerate(entries):
         fault = entry_fault(entry, entries[number - 1] if number else b"", start)
         if fault:
-            raise Fault(fault, start + ENTRY_LEN * number)
-    if not are_laid(entries, start):
+            raise Fault(fault, first + ENTRY_LEN * number)
+    if not are_laid(entries, start) or numbers_of(entries) != tuple(numbers):
         raise Fault("BadPlace", start)
     return entries
 

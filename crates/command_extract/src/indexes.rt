@@ -16,9 +16,9 @@ use crate::place::Place;
 use crate::sending::send_from;
 use archive_core::{Archive, Digest, SliceKey};
 use byte_device::{Placed, Sink};
-use command_common::{CommandFault, bytes_of};
+use command_common::{CommandFault, bytes_of, uuid_bytes};
 use command_index_queries::{Indexes, KeyPrefix, read_indexes, read_prefixes};
-use index_format::Index;
+use index_format::IndexPart;
 use index_lookup::NamedSlice;
 use memory::Heap;
 
@@ -27,7 +27,7 @@ use memory::Heap;
 fn choose_tied<A: Archive + Drop, P: Placed>(
     heap: Heap,
     key: &SliceKey,
-    read: &[Index],
+    read: &[IndexPart],
     archives: &mut [P],
 ) -> Result<Choice<Place<A>>, CommandFault>
     requires { length read.now ≡ length archives.old }
@@ -63,7 +63,7 @@ fn choose_named<A>(named: NamedSlice) -> Chosen<Place<A>>
     }
 }
 
-/// Chooses a slice by the entries of indexes, which are read. No slice is read, unless two that answer have one length
+/// Chooses a slice by the entries of indexes, of which those under its UUID are read. No slice is read, unless two that answer have one length
 /// and are in two archives.
 fn choose_by<A: Archive + Drop, I: Placed, P: Placed>(
     heap: Heap,
@@ -78,7 +78,7 @@ fn choose_by<A: Archive + Drop, I: Placed, P: Placed>(
         (λ chosen. IsFoundAt A.content named P.whole P.failures archives.old archives.new key.now digest.now
         chosen.place chosen.digest chosen.size) result }
 {
-    let read = read_indexes(&heap, indexes, archives)?;
+    let read = read_indexes(&heap, &[uuid_bytes(key.uuid)], indexes, archives)?;
     match choose_entry(&heap, key, digest, &read)? {
         EntryChoice::One(named) => Ok(Choice::One(choose_named(named))),
         EntryChoice::Undecided(rows) => Ok(Choice::Undecided(rows)),

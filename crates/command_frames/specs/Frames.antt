@@ -18,7 +18,7 @@ use Rattle.command_common.specs.declared.faults.Status.{Status}
 use Rattle.command_common.specs.declared.faults.Status.TheVariants.{SomeRefused}
 use Rattle.command_index_queries.specs.Several.{AreUnfailedTogether}
 use Rattle.command_index_queries.specs.Together.{AreReadWith}
-use Rattle.command_frames.specs.Asking.{AreGiven, AreRefusedAsking, IsAnsweredAt, keys_of}
+use Rattle.command_frames.specs.Asking.{AreAskedUuids, AreGiven, AreRefusedAsking, IsAnsweredAt, keys_of}
 use Rattle.command_frames.specs.Refusals.{AreRefusing, IsKeyRefused, KeyRefusal, Reply, refusal_lines}
 use Rattle.command_frames.specs.Refusals.{replies_status, replies_text}
 use Rattle.command_frames.specs.Slices.{IsAnsweringEntryRow}
@@ -69,13 +69,15 @@ TellFramesWith false IsSaid IsRefused all keys frames status text = TellFrames I
 TellFramesWith true IsSaid IsRefused all keys frames status text =
     TellFramesAndSlices IsSaid IsRefused all keys frames status text
 
--- The indexes were read. The frames have these answers, followed, if slices are wanted, by the slices that answer under
+-- The entries under the UUIDs of the frames were read of the indexes. The frames have these answers, followed, if slices are wanted, by the slices that answer under
 -- these keys. Under each key the tables answer, or the slices if two are tied. A key is refused alone only if slices
 -- are wanted.
 pub record AreToldAt {I P : Type 0} (lines slices : Bool) (indexes : List (Reader I)) (archives : List (Reader P))
     (keys : List SliceKey) (frames : List Frame) (status : Status) (text : List ℕ) : Type 0 where
+  pub uuids : List (List ℕ)
+  pub asked : AreAskedUuids frames uuids
   pub all : List (List (List ℕ))
-  pub read : AreReadWith indexes archives all
+  pub read : AreReadWith uuids indexes archives all
   pub told : TellFramesWith slices (IsAnsweredAt (AreGiven indexes) archives all lines)
       (IsKeyRefused lines frames indexes archives all) all keys frames status text
 

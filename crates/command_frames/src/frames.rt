@@ -14,7 +14,7 @@ ghost use Rattle.command_frames.specs.InnerKeyReplies.{HaveEachTold, asked_in};
 
 use crate::evidence::FrameEvidence;
 use crate::key_answers::{KeyAnswers, answer_keys};
-use crate::named::frame_keys;
+use crate::named::{asked_uuids, frame_keys};
 use crate::places::asked_keys;
 use crate::replies::{answer_frames_by_keys, refused_lines};
 use crate::slices::with_slices;
@@ -22,7 +22,7 @@ use archive_core::{Archive, SliceKey};
 use byte_device::{Placed, Sink, Source};
 use command_common::{CommandFault, Status, read_frames_input, write_report_bytes};
 use command_index_queries::read_indexes;
-use index_format::Index;
+use index_format::IndexPart;
 use memory::{Heap, NoMemory};
 use text_inputs::Frame;
 
@@ -32,7 +32,7 @@ fn print_frames(
     heap: &Heap,
     slices: bool,
     keys: &[SliceKey],
-    read: &[Index],
+    read: &[IndexPart],
     told: &[KeyAnswers<'_>],
     frames: &[Frame],
 ) -> Result<(Status, Vec<u8, Heap>), NoMemory>
@@ -50,7 +50,8 @@ fn print_frames(
 /// The status of the command and its lines for the frames: the answers of the indexes key by key, in the order of the
 /// keys' bytes; and if `slices`, the slices that answer under these keys.
 ///
-/// The indexes are read, and compared with the lengths of their archives. Then each key is answered: by tables, page by
+/// The entries under the UUIDs of the frames are read of the indexes, and these compared with the lengths of their
+/// archives. Then each key is answered: by tables, page by
 /// page, where those under one key are open at a time; or, if two slices of one length answer under the key in two
 /// archives, by the slices that the indexes name under this key, which are read at their offsets, tested and hashed.
 /// The lines of the slices follow, made from the entries of the indexes.
@@ -74,7 +75,8 @@ pub(crate) fn answer_by_indexes<A: Archive + Drop, I: Placed, P: Placed>(
         (λ told. AreToldAt lines slices named known keys.now frames.now told.0 told.1.items)
         (AreRefusedAsking lines slices frames.now named known) (AreUnfailedTogether named known) }
 {
-    let read = read_indexes(heap, indexes, archives)?;
+    let uuids = asked_uuids(heap, frames)?;
+    let read = read_indexes(heap, &uuids, indexes, archives)?;
     let asked = asked_keys(heap, frames)?;
     let told = answer_keys::<A, I, P>(heap, &read, indexes, archives, lines, slices, &asked)?;
     let shown = print_frames(heap, slices, keys, &read, &told, frames)?;

@@ -14,7 +14,7 @@ use crate::tied::answer_by_slices;
 use archive_core::{Archive, SliceKey, Where};
 use byte_device::Placed;
 use command_common::CommandFault;
-use index_format::Index;
+use index_format::IndexPart;
 use memory::Heap;
 
 /// A key that was asked for, and the answers for its addresses, or its refusal.
@@ -28,7 +28,7 @@ pub(crate) struct KeyAnswers<'k> {
 /// two are tied.
 fn answer_key<A: Archive + Drop, I: Placed, P: Placed>(
     heap: &Heap,
-    read: &[Index],
+    read: &[IndexPart],
     indexes: &mut [I],
     archives: &mut [P],
     key: &SliceKey,
@@ -54,7 +54,7 @@ fn answer_key<A: Archive + Drop, I: Placed, P: Placed>(
 /// that was changed or has no lines, and a slice that was changed, refuse their key alone.
 pub(crate) fn answer_keys<'k, A: Archive + Drop, I: Placed, P: Placed>(
     heap: &Heap,
-    read: &[Index],
+    read: &[IndexPart],
     indexes: &mut [I],
     archives: &mut [P],
     lines: bool,

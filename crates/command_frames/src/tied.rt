@@ -14,7 +14,7 @@ use byte_device::Placed;
 use command_common::{CommandFault, Why};
 use command_index_queries::{KeyPrefix, read_prefixes};
 use command_queries::answer_places;
-use index_format::Index;
+use index_format::IndexPart;
 use memory::Heap;
 
 /// Whether an index is stale at an entry.
@@ -50,7 +50,7 @@ fn reply_to_unread(slices: bool, fault: CommandFault) -> Result<KeyReply, Comman
 /// a failed device, refuse all keys.
 pub(crate) fn answer_by_slices<A: Archive + Drop, P: Placed>(
     heap: &Heap,
-    read: &[Index],
+    read: &[IndexPart],
     archives: &mut [P],
     key: &SliceKey,
     lines: bool,

@@ -1,13 +1,13 @@
 //! The records that an index names in its archive, read and joined.
 
-ghost use Rattle.std.specs.Prelude.{◌≡◌, IfErr, IfSome, OnOk, map};
+ghost use Rattle.std.specs.Prelude.{◌≡◌, IfErr, OnOk, map};
 ghost use Rattle.std.specs.FinSet as set;
 ghost use Rattle.archive_core.specs.Content.{content_of, joined};
 ghost use Rattle.archive_core.specs.Record.{record_bytes};
 ghost use Rattle.byte_device.specs.Devices.{FailsWithin};
 ghost use Rattle.byte_device.specs.Places.{HasSize};
-ghost use Rattle.index_format.specs.Places.{FailsUnder, HasIndexedLength};
-ghost use Rattle.index_format.specs.Text.{placed_of};
+ghost use Rattle.index_format.specs.Places.{FailsUnder};
+ghost use Rattle.index_format.specs.Text.{placed_in};
 ghost use Rattle.command_common.specs.Inputs.{ReadsInput, reader};
 ghost use Rattle.index_format.specs.Gathering.{AreGatheredUnder, IsEntryFault, ReadsPlaces};
 ghost use Rattle.command_index_queries.specs.Prefixes.{FailsFor, FailsUnderOne, TellsPlace, prefix_bytes};
@@ -21,7 +21,7 @@ use crate::prefixes::{KeyPrefix, key_of};
 use archive_core::{Archive, Operation, take_all};
 use byte_device::Placed;
 use command_common::{CommandFault, InputName, Why, uuid_bytes};
-use index_format::{Index, PlaceFault, archive_of, gather_at, indexed_size};
+use index_format::{IndexPart, PlaceFault, archive_of, gather_at};
 use memory::{Heap, NoMemory};
 
 /// Gathers the records under a prefix, at the offsets in an index, after those that were gathered before.
@@ -29,17 +29,17 @@ fn gather_prefix<P: Placed>(
     heap: &Heap,
     gathered: &mut Vec<Operation, Heap>,
     prefix: &KeyPrefix,
-    index: &Index,
+    index: &IndexPart,
     device: &mut P,
     size: u64,
 ) -> Result<(), PlaceFault>
     requires { HasSize (P.whole device.old) size }
     ensures { ReadsPlaces P.whole P.failures device.old device.new result
-        (λ _. AreGatheredUnder (P.whole device.old) (prefix_bytes prefix.now) (placed_of index.now)
+        (λ _. AreGatheredUnder (P.whole device.old) (prefix_bytes prefix.now) (placed_in index.now)
         (map record_bytes gathered.old.items) (map record_bytes gathered.new.items))
-        (IsEntryFault (prefix_bytes prefix.now) (placed_of index.now))
+        (IsEntryFault (prefix_bytes prefix.now) (placed_in index.now))
         (FailsUnder (FailsWithin P.whole P.failures P.unread device.old device.new) (prefix_bytes prefix.now)
-        (placed_of index.now)) }
+        (placed_in index.now)) }
 {
     match prefix {
         KeyPrefix::Uuid(uuid) => {
@@ -54,17 +54,17 @@ fn gather_prefixes<P: Placed>(
     heap: &Heap,
     gathered: &mut Vec<Operation, Heap>,
     prefixes: &[KeyPrefix],
-    index: &Index,
+    index: &IndexPart,
     device: &mut P,
     size: u64,
 ) -> Result<(), PlaceFault>
     requires { HasSize (P.whole device.old) size }
     ensures { ReadsPlaces P.whole P.failures device.old device.new result
-        (λ _. HaveGathered (P.whole device.old) (map prefix_bytes prefixes.now) (placed_of index.now)
+        (λ _. HaveGathered (P.whole device.old) (map prefix_bytes prefixes.now) (placed_in index.now)
         (map record_bytes gathered.old.items) (map record_bytes gathered.new.items))
-        (IsFaultAmong (map prefix_bytes prefixes.now) (placed_of index.now))
+        (IsFaultAmong (map prefix_bytes prefixes.now) (placed_in index.now))
         (FailsUnderOne (FailsWithin P.whole P.failures P.unread device.old device.new) (map prefix_bytes prefixes.now)
-        (placed_of index.now)) }
+        (placed_in index.now)) }
 {
     'prefixes: for prefix in prefixes {
         gather_prefix(heap, gathered, prefix, index, device, size)?;
@@ -86,24 +86,26 @@ fn join_gathered<A: Archive + Drop>(
     Ok(())
 }
 
-/// Joins the records under these prefixes, at the offsets in an index of an archive, which has the length stated there.
+/// Joins the records under these prefixes, at the offsets in an index of an archive.
 fn join_prefixes<A: Archive + Drop, P: Placed>(
     heap: &Heap,
     kept: &mut A,
     prefixes: &[KeyPrefix],
-    index: &Index,
+    index: &IndexPart,
     device: &mut P,
 ) -> Result<(), PlaceFault>
     ensures { ReadsPlaces P.whole P.failures device.old device.new result
-        (λ _. IfSome (P.whole device.old) (HasIndexedLength (placed_of index.now)) × HasJoinedNamed (P.whole device.old)
-        (map prefix_bytes prefixes.now) (placed_of index.now) (A.content kept.old) (A.content kept.new))
-        (IsFaultUnder (map prefix_bytes prefixes.now) (placed_of index.now))
+        (λ _. HasJoinedNamed (P.whole device.old) (map prefix_bytes prefixes.now) (placed_in index.now)
+        (A.content kept.old) (A.content kept.new))
+        (IsFaultUnder (map prefix_bytes prefixes.now) (placed_in index.now))
         (FailsFor (P.unmeasured device.old device.new)
         (FailsWithin P.whole P.failures P.unread device.old device.new) (map prefix_bytes prefixes.now)
-        (placed_of index.now)) }
+        (placed_in index.now)) }
 {
     let _held = kept.len();
-    let size = indexed_size(index, device)?;
+    let Ok(size) = device.size() else {
+        return Err(PlaceFault::Device(0));
+    };
     let mut gathered = Vec::new(heap.share());
     gather_prefixes(heap, &mut gathered, prefixes, index, device, size)?;
     match join_gathered(heap, kept, gathered) {
@@ -133,17 +135,17 @@ pub(crate) fn join_archive<A: Archive + Drop, P: Placed>(
     kept: &mut A,
     number: u64,
     prefixes: &[KeyPrefix],
-    tables: &Index,
+    tables: &IndexPart,
     archive: &mut P,
 ) -> Result<(), CommandFault>
     ensures read { let sought = map prefix_bytes prefixes.now in
         ReadsInput (reader P.whole P.failures archive.old archive.new) result
-        (λ archive _. IsNamedIn archive sought (placed_of tables.now) (A.content kept.old) (A.content kept.new))
+        (λ archive _. IsNamedIn archive sought (placed_in tables.now) (A.content kept.old) (A.content kept.new))
         (λ archive. IsRefusedAtPlaces sought number archive tables.now) }
     ensures place { IfErr result (TellsPlace (λ named offset. (named ≡ number)
         × FailsFor (P.unmeasured archive.old archive.new)
         (FailsWithin P.whole P.failures P.unread archive.old archive.new) (map prefix_bytes prefixes.now)
-        (placed_of tables.now) offset)) }
+        (placed_in tables.now) offset)) }
     ensures kept { P.whole archive.new ≡ P.whole archive.old }
 {
     match join_prefixes(heap, kept, prefixes, tables, archive) {

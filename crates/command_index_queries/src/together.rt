@@ -1,6 +1,9 @@
 //! Several archives that are read by their indexes.
 
 ghost use Rattle.std.specs.Prelude.{◌≡◌, IfErr, OnOk, length, map};
+ghost use Rattle.std.specs.List.Sorted.{IsStrictlySortedBy};
+ghost use Rattle.std.specs.Ordering.{nat_cmp};
+ghost use Rattle.std.specs.Cmp.Lexicographic.{slice_cmp};
 ghost use Rattle.command_common.specs.Inputs.{EachUnfailed, ReadsInputs, readers};
 ghost use Rattle.command_index_queries.specs.Prefixes.{FailsAt, TellsPlace, prefix_bytes};
 ghost use Rattle.command_index_queries.specs.InnerParts.{HaveJoinedGroups};
@@ -8,39 +11,43 @@ ghost use Rattle.command_index_queries.specs.Several.{AreRefusedTogether, AreUnf
 ghost use Rattle.command_index_queries.specs.Together.{AreAllKept, AreReadWith, HoldNamed, IsFirstRefusedAtPlaces};
 ghost use Rattle.command_index_queries.specs.Together.{HaveSameBytes, IsFirstRefusedByIndex};
 
-use crate::inputs::read_matching_index;
+use crate::inputs::read_matching_part;
 use crate::parts::join_archive;
 use crate::prefixes::KeyPrefix;
 use archive_core::Archive;
 use byte_device::Placed;
 use command_common::CommandFault;
-use index_format::Index;
+use index_format::IndexPart;
 use memory::Heap;
 
-/// Reads the indexes of archives, and tests that these have the lengths stated there, in the order of the command line:
-/// each index, and then the length of its archive. The entries of all of them are kept in memory.
+/// Reads the entries under these UUIDs of the indexes of archives, and tests that these have the lengths stated there, in
+/// the order of the command line: each index, and then the length of its archive. These entries are kept in memory.
 ///
 /// # Errors
 ///
 /// `Input` for the first index or archive that is refused; `OutOfMemory`.
 pub fn read_indexes<I: Placed, P: Placed>(
     heap: &Heap,
+    uuids: &[[u8; 16]],
     indexes: &mut [I],
     archives: &mut [P],
-) -> Result<Vec<Index, Heap>, CommandFault>
-    requires { length indexes.old ≡ length archives.old }
+) -> Result<Vec<IndexPart, Heap>, CommandFault>
+    requires ascending { IsStrictlySortedBy (slice_cmp nat_cmp) uuids.now }
+    requires many { length indexes.old ≡ length archives.old }
     ensures read { let named = readers I.whole I.failures indexes.old indexes.new in
         let known = readers P.whole P.failures archives.old archives.new in
-        ReadsInputs result (λ read. AreReadWith named known read.items) (IsFirstRefusedByIndex named known)
+        ReadsInputs result (λ read. AreReadWith uuids.now named known read.items)
+        (IsFirstRefusedByIndex uuids.now named known)
         (EachUnfailed named × EachUnfailed known) }
     ensures kept { OnOk result (AreAllKept I.whole I.failures indexes.old indexes.new
         × AreAllKept P.whole P.failures archives.old archives.new) }
 {
     let mut read = Vec::new(heap.share());
     'indexes: for number in 0..indexes.len() {
-        let tables = read_matching_index(
+        let tables = read_matching_part(
             heap,
             number as u64,
+            uuids,
             &mut indexes[number],
             &mut archives[number],
         )?;
@@ -55,7 +62,7 @@ fn join_archives<A: Archive + Drop, P: Placed>(
     heap: &Heap,
     kept: &mut A,
     prefixes: &[KeyPrefix],
-    read: &[Index],
+    read: &[IndexPart],
     archives: &mut [P],
 ) -> Result<(), CommandFault>
     requires { length read.now ≡ length archives.old }
@@ -82,8 +89,8 @@ fn join_archives<A: Archive + Drop, P: Placed>(
 }
 
 /// Reads the records of archives under these prefixes, after their indexes were read: the slices that these name, at
-/// their offsets, in the order of the command line. The length of each archive is compared again before that. An
-/// archive keeps its bytes even if one is refused, so that others may be read after that.
+/// their offsets, in the order of the command line. An archive keeps its bytes even if one is refused, so that others
+/// may be read after that.
 ///
 /// # Errors
 ///
@@ -91,7 +98,7 @@ fn join_archives<A: Archive + Drop, P: Placed>(
 pub fn read_prefixes<A: Archive + Drop, P: Placed>(
     heap: &Heap,
     prefixes: &[KeyPrefix],
-    read: &[Index],
+    read: &[IndexPart],
     archives: &mut [P],
 ) -> Result<A, CommandFault>
     requires { length read.now ≡ length archives.old }
@@ -108,25 +115,27 @@ pub fn read_prefixes<A: Archive + Drop, P: Placed>(
     Ok(kept)
 }
 
-/// Reads the records of archives under these prefixes: all their indexes first, as [`read_indexes`] does, and then the
-/// slices that these name, as [`read_prefixes`] does.
+/// Reads the records of archives under these prefixes: first the entries under these UUIDs of all their indexes, as
+/// [`read_indexes`] does, and then the slices that these name, as [`read_prefixes`] does.
 ///
 /// # Errors
 ///
 /// Those of the two, in this order.
 pub(crate) fn read_archives_by_indexes<A: Archive + Drop, I: Placed, P: Placed>(
     heap: &Heap,
+    uuids: &[[u8; 16]],
     prefixes: &[KeyPrefix],
     indexes: &mut [I],
     archives: &mut [P],
 ) -> Result<A, CommandFault>
-    requires { length indexes.old ≡ length archives.old }
+    requires ascending { IsStrictlySortedBy (slice_cmp nat_cmp) uuids.now }
+    requires many { length indexes.old ≡ length archives.old }
     ensures { let sought = map prefix_bytes prefixes.now in
         let named = readers I.whole I.failures indexes.old indexes.new in
         let known = readers P.whole P.failures archives.old archives.new in
-        ReadsInputs result (λ kept. HoldTogether sought named known (A.content kept))
-        (AreRefusedTogether sought named known) (AreUnfailedTogether named known) }
+        ReadsInputs result (λ kept. HoldTogether uuids.now sought named known (A.content kept))
+        (AreRefusedTogether uuids.now sought named known) (AreUnfailedTogether named known) }
 {
-    let read = read_indexes(heap, indexes, archives)?;
+    let read = read_indexes(heap, uuids, indexes, archives)?;
     read_prefixes(heap, prefixes, &read, archives)
 }

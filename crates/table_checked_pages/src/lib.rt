@@ -7,7 +7,7 @@
 //! - `claim`: [`Claim`], the place at which bytes are said to be stored;
 //! - `fault`: [`CheckFault`], why bytes cannot be returned;
 //! - `sizes`: the number of bytes that are stored, and of each level;
-//! - `checking`: a number of bytes, compared with their digest;
+//! - `checking`: a number of bytes, compared with their digest; [`read_all`], all bytes of a claim;
 //! - `level`: the known pages of a level;
 //! - `pages`: [`Pages`], stored bytes, and their known pages;
 //! - `opening`: [`Pages::open`], the bytes of a claim; `reading`: [`Pages::read`], some of them;
@@ -29,6 +29,7 @@ mod reading;
 mod sizes;
 mod storing;
 
+pub use checking::read_all;
 pub use claim::Claim;
 pub use fault::CheckFault;
 pub use halving::{Sought, partition_point};
