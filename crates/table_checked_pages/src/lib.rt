@@ -12,6 +12,7 @@
 //! - `pages`: [`Pages`], stored bytes, and their known pages;
 //! - `opening`: [`Pages::open`], the bytes of a claim; `reading`: [`Pages::read`], some of them;
 //! - `halving`: [`partition_point`], a binary search among rows in pages ([`Sought`]);
+//! - `groups`: [`Groups`], the place of rows of any size in groups; `group_reading`: one of the groups;
 //! - `storing`: [`store`], bytes with their digests; `numbers`: the numbers among stored bytes;
 //! - `laws`: how bytes are stored; the assumption about SHA-256, and when it is not needed.
 #![tactic(auto)]
@@ -19,6 +20,8 @@
 mod checking;
 mod claim;
 mod fault;
+mod group_reading;
+mod groups;
 mod halving;
 pub mod laws;
 mod level;
@@ -31,6 +34,7 @@ mod storing;
 
 pub use claim::Claim;
 pub use fault::CheckFault;
+pub use groups::{GROUP_LEN, GROUP_MOST, GROUP_ROWS, Groups, groups_in};
 pub use halving::{Sought, partition_point};
 pub use numbers::{u32_be_at, u64_be_at};
 pub use pages::Pages;

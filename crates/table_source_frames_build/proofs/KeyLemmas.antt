@@ -14,6 +14,7 @@ use Rattle.table_source_frames_build.specs.Kept.{IsNumberedIn}
 use Rattle.table_source_frames_build.specs.Marks.{mark_of}
 use Rattle.table_source_frames_build.specs.declared.keys.FileKey.{FileKey}
 use Rattle.table_source_frames_build.specs.declared.keys.LocationKey.{LocationKey}
+use Rattle.table_source_frames_build.specs.declared.keys.ScopeKey.{ScopeKey}
 use Rattle.table_source_frames_build.specs.declared.keys.TextKey.{TextKey}
 use Rattle.table_source_frames_build.proofs.KeptLemmas.{told_by}
 
@@ -130,27 +131,44 @@ pub file_told : (old : List FileKey) (key : FileKey) (n : ℕ) (new : List FileK
 file_told old key n new h =
     simp map-id at (told_by file_cmp (λ (f : FileKey). f) file_exact file_same (record { base = 0; directory = 0; name = 0 }) old key n new h)
 
+-- keys of scopes
+abbrev pub scope_cmp : ScopeKey → ScopeKey → Ordering
+scope_cmp a b = ordering_then (nat_cmp a.caller b.caller) (ordering_then (nat_cmp a.name b.name) (nat_cmp a.file b.file))
+
+scope_exact : (a b : ScopeKey) → is_eq (scope_cmp a b) ≡ true → a ≡ b
+scope_exact a b e =
+    let both = exact_pairs nat_cmp (λ (x y : ℕ × ℕ). ordering_then (nat_cmp x.0 y.0) (nat_cmp x.1 y.1)) exact_unsigned
+    (exact_pairs nat_cmp nat_cmp exact_unsigned exact_unsigned) (a.caller, (a.name, a.file))
+    (b.caller, (b.name, b.file)) ((Equal-is (scope_cmp a b)).0 e) in
+    λ i. record { caller = (both i).0; name = (both i).1.0; file = (both i).1.1 }
+
+scope_same : (a b : ScopeKey) → a ≡ b → is_eq (scope_cmp a b) ≡ true
+scope_same a b e = subst (λ (c : ScopeKey). is_eq (scope_cmp a c) ≡ true) e (simp (tied_itself nat_cmp_total))
+
+pub scope_told : (old : List ScopeKey) (key : ScopeKey) (n : ℕ) (new : List ScopeKey) → IsNumbered scope_cmp old key n new
+    → IsNumberedIn (record { caller = 0; name = 0; file = 0 }) old key n new
+scope_told old key n new h =
+    simp map-id at (told_by scope_cmp (λ (s : ScopeKey). s) scope_exact scope_same (record { caller = 0; name = 0; file = 0 }) old key n new h)
+
 -- keys of locations
 abbrev pub location_cmp : LocationKey → LocationKey → Ordering
-location_cmp a b =
-    ordering_then (nat_cmp a.caller b.caller)
-    (ordering_then (nat_cmp a.name b.name) (ordering_then (nat_cmp a.line b.line) (ordering_then (nat_cmp a.column b.column) (nat_cmp a.file b.file))))
+location_cmp a b = ordering_then (nat_cmp a.scope b.scope) (ordering_then (nat_cmp a.line b.line) (nat_cmp a.column b.column))
 
 location_exact : (a b : LocationKey) → is_eq (location_cmp a b) ≡ true → a ≡ b
 location_exact a b e =
-    let both = exact_pairs nat_cmp _ exact_unsigned (exact_pairs nat_cmp _ exact_unsigned (exact_pairs nat_cmp _ exact_unsigned
-    (exact_pairs nat_cmp nat_cmp exact_unsigned exact_unsigned))) (a.caller, (a.name, (a.line, (a.column, a.file))))
-    (b.caller, (b.name, (b.line, (b.column, b.file)))) ((Equal-is (location_cmp a b)).0 e) in
-    λ i. record { caller = (both i).0; name = (both i).1.0; line = (both i).1.1.0; column = (both i).1.1.1.0; file = (both i).1.1.1.1 }
+    let both = exact_pairs nat_cmp (λ (x y : ℕ × ℕ). ordering_then (nat_cmp x.0 y.0) (nat_cmp x.1 y.1)) exact_unsigned
+    (exact_pairs nat_cmp nat_cmp exact_unsigned exact_unsigned) (a.scope, (a.line, a.column))
+    (b.scope, (b.line, b.column)) ((Equal-is (location_cmp a b)).0 e) in
+    λ i. record { scope = (both i).0; line = (both i).1.0; column = (both i).1.1 }
 
 location_same : (a b : LocationKey) → a ≡ b → is_eq (location_cmp a b) ≡ true
 location_same a b e = subst (λ (c : LocationKey). is_eq (location_cmp a c) ≡ true) e (simp (tied_itself nat_cmp_total))
 
 pub location_told : (old : List LocationKey) (key : LocationKey) (n : ℕ) (new : List LocationKey) → IsNumbered location_cmp old key n new
-    → IsNumberedIn (record { name = 0; file = 0; line = 0; column = 0; caller = 0 }) old key n new
+    → IsNumberedIn (record { scope = 0; line = 0; column = 0 }) old key n new
 location_told old key n new h =
     simp map-id at (told_by location_cmp (λ (l : LocationKey). l) location_exact location_same
-    (record { name = 0; file = 0; line = 0; column = 0; caller = 0 }) old key n new h)
+    (record { scope = 0; line = 0; column = 0 }) old key n new h)
 
 -- ---- by what a call gave
 

@@ -17,7 +17,7 @@ use Rattle.table_source_frames_build.specs.StepViews.{HaveLocations, changed_aft
 use Rattle.table_source_frames_build.specs.declared.step.Step.{Step}
 use Rattle.table_source_frames_build.proofs.KeptLemmas.{chain_none, chain_same, location_stays, name_stays, path_stays}
 use Rattle.table_source_frames_build.proofs.FirstUsesLemmas.{told_same}
-use Rattle.table_source_frames_build.proofs.PartLemmas.{chain_apart}
+use Rattle.table_source_frames_build.proofs.ChainLemmas.{chain_apart}
 
 -- ---- what is kept grows
 
@@ -106,7 +106,7 @@ module _ (k : KeptRecord) (kept : IsKept k) where
 
   -- ---- what is written
 
-  pub written : (room : ℕ) (steps changed : List Step) (value : List StepRecord) (bytes : List ℕ)
+  pub written : (room : ℕ) (strings : List ℕ) (steps changed : List Step) (value : List StepRecord) (bytes : List ℕ)
       → map (step_of k) steps ≡ value → AreLeastSteps (map (step_of k) steps) (map (step_of k) changed)
-      → IsLineTextWithin room (map (step_of k) changed) bytes → IsWritten room value bytes
-  written room steps changed value bytes e least text = subst (λ v. IsWritten room v bytes) e (map (step_of k) changed, least, text)
+      → IsLineTextWithin room strings (map (step_of k) changed) bytes → IsWritten room strings value bytes
+  written room strings steps changed value bytes e least text = subst (λ v. IsWritten room strings v bytes) e (map (step_of k) changed, least, text)

@@ -28,7 +28,7 @@ fn push_bytes(name: &mut Vec<u8, Heap>, bytes: &[u8]) -> Result<(), CheckFault>
 
 /// The name at an offset of the strings, which are the `size` bytes of the table from `first` on. It ends before the
 /// first NUL, or with the strings; past their end it is empty. The errors are those of [`CheckFault`].
-pub(crate) fn name_from<P: Placed>(
+pub fn name_from<P: Placed>(
     heap: Heap,
     device: &mut P,
     table: &mut Pages,

@@ -10,12 +10,12 @@ pub returns-in-Some-clause-read : goal.returns-in-Some-clause-read
 returns-in-Some-clause-read g c =
     read_as
     (λ text known frames says. record {
-      of_slice = λ slice all steps are base opened.
+      of_slice = λ slice all strings steps are base opened.
           let at : file_address slice c.args.asked ≡ Some c.in-Some.address =
           ap (λ (b : Option ℕ). address_by b c.args.asked) (sym base) ∙ sym c.address_by.ensures ∙ c.in-Some.is in
           subst (λ (o : Option ℕ). MatchOption o (owned_frames frames.items ≡ [])
-          (λ address. AreFramesOf slice address (owned_frames frames.items))) (sym at) (says.0 slice all steps are opened);
+          (λ address. AreFramesOf slice address (owned_frames frames.items))) (sym at) (says.0 slice all strings steps are opened);
       of_bytes = says.1;
     })
-    (λ text known absent slice all steps stored are opened. absent slice all steps stored are opened)
+    (λ text known absent slice all strings steps stored are opened. absent slice all strings steps stored are opened)
     c.frames_at.ensures.read

@@ -1,5 +1,5 @@
 use Rattle.std.proofs.Common.{◌≡◌, ◌+◌, ◌≤◌, length, take, drop, ap, ◌∙◌, arith, length-take}
-use Rattle.table_symbols.proofs.RowLemmas.{part_stands}
+use Rattle.table_checked_pages.proofs.PlaceLemmas.{part_stands}
 use Rattle.table_symbols.proofs.NameLemmas.{piece_last, piece_more}
 use Rattle.table_symbols.proofs.names.name_from.Goals as goal
 
