@@ -10,8 +10,8 @@ ghost use Rattle.archive_core.specs.Lookup.{IsAnswer, IsConflict, answer_view};
 ghost use Rattle.archive_core.specs.Names.{IsNames, name_view};
 
 use crate::{Answer, FindRow, NameRow, Operation, Record, Slice, SliceKey, Where};
+use heap_memory::{Heap, NoMemory};
 use join_core::Join;
-use memory::{Heap, NoMemory};
 use std::marker::Model;
 use uuid::Uuid;
 

@@ -3,8 +3,8 @@ ghost use Rattle.std.specs.Prelude.{◌≡◌};
 ghost use Rattle.archive_core.specs.Lookup.{address_by, unslid};
 
 use crate::Digest;
+use heap_memory::Heap;
 use macho_symbols::Found;
-use memory::Heap;
 
 /// An address of an image: in its file, or where it was loaded.
 #[derive(Clone, Copy, Debug, PartialEq, Eq)]

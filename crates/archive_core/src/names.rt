@@ -6,8 +6,8 @@ ghost use Rattle.archive_core.specs.Valid.{key_of};
 ghost use Rattle.archive_core.specs.Names.{key_cmp, place_cmp, name_cmp, name_row, name_view, owned_name_view};
 
 use crate::{Digest, SliceKey};
+use heap_memory::{Heap, NoMemory};
 use macho_symbols::Found;
-use memory::{Heap, NoMemory};
 use std::cmp::Ordering;
 
 /// A symbol with the name. The names of its section are borrowed from its slice.

@@ -10,7 +10,7 @@ ghost use Rattle.archive_core.specs.Valid.{key_of};
 
 use crate::keys::compare_keys;
 use crate::{CheckedSlice, Digest, Slice, SliceKey};
-use memory::{Heap, NoMemory};
+use heap_memory::{Heap, NoMemory};
 use std::cmp::Ordering;
 
 /// An operation of an archive.

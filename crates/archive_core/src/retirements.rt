@@ -13,7 +13,7 @@ ghost use Rattle.archive_core.specs.Record.{retirement_record};
 
 use crate::layout::{RETIREMENT, RETIREMENT_LEN, key_prefix, retirement_bytes};
 use crate::{CheckedSlice, SliceKey};
-use memory::{Heap, NoMemory};
+use heap_memory::{Heap, NoMemory};
 use std::cmp::Ordering;
 use std::collections::BTreeSet;
 use std::marker::Model;

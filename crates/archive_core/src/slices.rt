@@ -8,9 +8,9 @@ ghost use Rattle.macho_symbols.specs.Views.{found_view};
 ghost use Rattle.archive_core.specs.Valid.{IsValid, IsSliceFault, IsAdmitFault, IsCheckedOf, key_of};
 
 use crate::{AdmitFault, ArchKey, Digest, SliceFault, SliceKey};
+use heap_memory::{Heap, NoMemory};
 use macho_image::{Image, Symtab};
 use macho_symbols::{AddressTable, Found, Symbols};
-use memory::{Heap, NoMemory};
 use sha2::{Digest as _, Sha256};
 use std::marker::Model;
 

@@ -7,11 +7,11 @@ ghost use Rattle.archive_exchange.specs.InnerEvents.{SeenFile, IsRecorded, Follo
 
 use crate::message::Message;
 use crate::{DeliverFault, EventFault, Outcome, ReplyFault, Site};
-use archive_admission::TakeFault;
-use archive_admission::laws::one_take_fault;
 use archive_core::{Archive, Digest, SliceKey};
-use memory::{Heap, NoMemory};
-use text_inputs::Event;
+use archive_file_admission::TakeFault;
+use archive_file_admission::laws::one_take_fault;
+use heap_memory::{Heap, NoMemory};
+use text_scripts_and_frames::Event;
 
 fn send(messages: &mut Vec<Message, Heap>, text: Vec<u8, Heap>) -> Result<Outcome, NoMemory>
     ensures sent { OnOk result (messages.new.items ≡ messages.old.items ++ text.items ∷ []) }

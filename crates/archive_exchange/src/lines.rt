@@ -8,10 +8,10 @@ ghost use Rattle.text_reports.specs.Report.{line};
 
 use crate::outcome::{EventFault, Outcome};
 use crate::world::World;
-use archive_admission::Taken;
 use archive_core::{Archive, Digest};
+use archive_file_admission::Taken;
 use archive_records::Sizes;
-use memory::{Heap, NoMemory};
+use heap_memory::{Heap, NoMemory};
 use std::fmt::{self, Display};
 use text_reports::Text;
 use text_values::Spelled;

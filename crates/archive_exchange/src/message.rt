@@ -1,6 +1,6 @@
 //! The text of a message.
 
-use memory::Heap;
+use heap_memory::Heap;
 use std::marker::Model;
 
 /// A message that a site sent, as its text.

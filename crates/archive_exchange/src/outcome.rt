@@ -1,8 +1,8 @@
 //! The outcome of an event.
 
-use archive_admission::{TakeFault, Taken};
+use archive_file_admission::{TakeFault, Taken};
 use archive_records::RecordFault;
-use memory::Heap;
+use heap_memory::Heap;
 
 /// Why an event is refused. If several faults apply, it is the first of them in this order.
 #[derive(Clone, Copy, Debug, PartialEq, Eq)]

@@ -16,9 +16,9 @@ use archive_core::{Archive, Digest};
 use archive_records::Sizes;
 use byte_device::{Sink, Source};
 use command_common::{CommandFault, Status, read_script_input, write_report};
-use memory::{Heap, NoMemory};
+use heap_memory::{Heap, NoMemory};
 use sha2::{Digest as _, Sha256};
-use text_inputs::Script;
+use text_scripts_and_frames::Script;
 
 /// Adds the line of a site; its archive's text is built for its size and its SHA-256.
 fn push_held<A: Archive + Drop>(

@@ -18,10 +18,10 @@ use crate::model_laws::{
     same_operations_same_content,
 };
 use crate::{Outcome, Site, World};
-use archive_admission::TakeFault;
 use archive_core::Archive;
-use memory::{Heap, NoMemory};
-use text_inputs::Event;
+use archive_file_admission::TakeFault;
+use heap_memory::{Heap, NoMemory};
+use text_scripts_and_frames::Event;
 
 fn empty_sites<A: Archive + Drop>(heap: &Heap, sites: u32) -> Result<Vec<Site<A>, Heap>, NoMemory>
     ensures number { IfOk result (λ row. length row.items ≡ sites) }

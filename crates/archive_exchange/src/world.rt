@@ -6,7 +6,7 @@ ghost use Rattle.archive_exchange.specs.WorldState.{AreSites};
 use crate::Site;
 use crate::message::Message;
 use archive_core::Archive;
-use memory::Heap;
+use heap_memory::Heap;
 use std::marker::Model;
 
 /// The sites of a rehearsal and the messages that they sent. Both are counted from 0.

@@ -17,7 +17,7 @@ ghost use Rattle.archive_core.specs.declared.operations.Operation.TheVariants.{R
 use crate::plain::search;
 use crate::range::{RecordKind, Scope, has_retirement, keep_digests_under, range_of};
 use archive_core::{Digest, Operation, Slice, SliceKey, retirement};
-use memory::Heap;
+use heap_memory::Heap;
 use std::marker::Model;
 
 // The operations of an archive, borrowed. A contract sees them as their content.

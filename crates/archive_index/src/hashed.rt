@@ -4,7 +4,7 @@ ghost use Rattle.archive_core.specs.Find.{find_cmp, row_of};
 ghost use Rattle.archive_core.specs.Record.{IsOperation, operation_borrowed};
 
 use archive_core::{FindRow, Record};
-use memory::{Heap, NoMemory};
+use heap_memory::{Heap, NoMemory};
 use std::cmp::Ordering;
 use std::marker::Model;
 

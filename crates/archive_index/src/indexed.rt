@@ -3,8 +3,8 @@ use crate::PlainArchive;
 use archive_core::{
     Answer, Archive, Contents, FindRow, NameRow, Operation, Record, Slice, SliceKey, Where,
 };
+use heap_memory::{Heap, NoMemory};
 use join_core::Join;
-use memory::{Heap, NoMemory};
 use std::marker::Model;
 use uuid::Uuid;
 

@@ -4,7 +4,7 @@ ghost use Rattle.std.specs.List.Sorted.{IsStrictlySortedBy};
 ghost use Rattle.archive_core.specs.Names.{NameRecord, name_cmp, name_view, names_in};
 
 use archive_core::{NameRow, Slice};
-use memory::{Heap, NoMemory};
+use heap_memory::{Heap, NoMemory};
 
 // The rows of a name in a slice, in the order of its symbol table. Not inlined: see `CheckedSlice::has_name`.
 #[inline(never)]

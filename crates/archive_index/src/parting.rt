@@ -6,7 +6,7 @@ ghost use Rattle.archive_index.specs.InnerTaking.{IsPut, IsParted};
 ghost use Rattle.archive_core.specs.declared.operations.Operation.TheVariants.{Admit, Retire};
 
 use archive_core::{Digest, Operation, Retirements, Slice, SliceKey, retirement, retirement_bytes};
-use memory::{Heap, NoMemory};
+use heap_memory::{Heap, NoMemory};
 
 // The admissions of a list and its retirements, without those that are never new at their position: a slice after its
 // retirement, and a repeated retirement.

@@ -31,8 +31,8 @@ use archive_core::{
     Answer, Archive, Contents, Digest, FindRow, NameRow, Operation, Own, Record, Slice, SliceKey,
     Where, is_key, retirement,
 };
+use heap_memory::{Heap, NoMemory};
 use join_core::Join;
-use memory::{Heap, NoMemory};
 use std::marker::Model;
 use uuid::Uuid;
 

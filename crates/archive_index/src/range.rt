@@ -13,7 +13,7 @@ ghost use Rattle.archive_index.specs.declared.range.RecordKind.TheVariants.{Reti
 
 use crate::asked::is_kind;
 use archive_core::{Operation, SliceKey, compare_keys};
-use memory::{Heap, NoMemory};
+use heap_memory::{Heap, NoMemory};
 use std::cmp::Ordering;
 use uuid::Uuid;
 

@@ -9,7 +9,7 @@ ghost use Rattle.archive_index.specs.Taking.{Takes, TakesEach};
 use crate::parting::{Parts, by_kind};
 use crate::plain::order;
 use archive_core::{Archive, Operation};
-use memory::{Heap, NoMemory};
+use heap_memory::{Heap, NoMemory};
 
 // Whether the operation admits a slice.
 fn is_admission(operation: &Operation) -> bool

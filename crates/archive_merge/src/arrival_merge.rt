@@ -26,7 +26,7 @@ use crate::side::{Lookahead, ReadFrom, Side};
 use crate::streams::{begin_both, finish};
 use archive_records::{MergeCause, MergeFault, RecordFault, Sizes};
 use byte_device::{Sink, Source};
-use memory::Heap;
+use heap_memory::Heap;
 use std::cmp::Ordering;
 
 /// The effect of the next record on the left side: none if only the left side has it. All records of the left side that

@@ -3,7 +3,7 @@
 ghost use Rattle.std.specs.Prelude.{◌≡◌, ◌≤◌, ◌&&◌, ◌||◌, count_by, false, [], length};
 ghost use Rattle.archive_merge.specs.Arrivals.{is_new, arrival_by};
 
-use memory::Heap;
+use heap_memory::Heap;
 
 /// The effect of a record of the right side on the left one.
 #[derive(Clone, Copy, Debug, PartialEq, Eq)]

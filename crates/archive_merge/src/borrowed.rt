@@ -19,7 +19,7 @@ use archive_records::{
     MAGIC_LEN, MOST, RecordFault, RecordFaultKind, admission_head, put_record, retirement_bytes,
 };
 use byte_device::{Sink, WriteFault};
-use memory::{Heap, NoMemory};
+use heap_memory::{Heap, NoMemory};
 use std::cmp::Ordering;
 
 /// The part of a text that was read.

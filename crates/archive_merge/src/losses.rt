@@ -9,7 +9,7 @@ use crate::arrivals::number_of_new;
 use crate::side::MergeInput;
 use archive_records::MergeFault;
 use byte_device::{Nowhere, Source};
-use memory::Heap;
+use heap_memory::Heap;
 
 /// The number of operations of the old archive that the new one neither has nor covers by a retirement: those that are
 /// lost if it replaces the old one. Each may have either version. The two are read side by side, like in
@@ -18,7 +18,7 @@ use memory::Heap;
 ///
 /// # Errors
 ///
-/// `Left` with the fault that `read_archive` of `archive_read` returns for the new archive, and `Right` with that of
+/// `Left` with the fault that `read_archive` of `archive_results` returns for the new archive, and `Right` with that of
 /// the old one: if both are refused, it is the one that stops [`merge_streams`](crate::merge_streams). `Write` is never
 /// returned.
 pub fn lost_operations<R: Source, S: Source>(

@@ -18,7 +18,7 @@ ghost use Rattle.archive_merge.specs.MergeSteps.{Stands, StopsBeforeRecords, mem
 use archive_core::{RETIREMENT_LEN, Retirements};
 use archive_records::{NextRecord, RecordFault, RecordReader, TextKind};
 use byte_device::{Sink, Source, WriteFault, put};
-use memory::Heap;
+use heap_memory::Heap;
 use std::cmp::Ordering;
 
 /// The state of the next record.

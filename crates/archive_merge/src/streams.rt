@@ -14,7 +14,7 @@ use crate::side::{MergeInput, ReadFrom, Side};
 use archive_core::Retirements;
 use archive_records::{Format, MergeCause, MergeFault, Sizes, put_end};
 use byte_device::{Sink, Source, put};
-use memory::Heap;
+use heap_memory::Heap;
 
 // The fault with this cause, with nothing written.
 pub fn before_the_magic(cause: MergeCause) -> MergeFault
@@ -108,11 +108,10 @@ fn merge_taken<R: Source, F, B: ReadFrom<F>, W: Sink>(
 /// end record it tests that the input ends.
 ///
 /// # Errors
-///
-/// `Left` and `Right` with the fault that `read_archive` of `archive_read` returns for that side alone; `Write` if the
-/// writer failed, and no side was refused before. A record after 9,223,372,036,854,775,807 others is `OutOfMemory` of
-/// the side with it, the left one if both have it, and so is a retirement for which there is no memory. In that case
-/// the writer has the first `written` bytes of an archive, and no end record: its bytes are not an archive's text.
+/// `Left` and `Right` with the fault that `read_archive` of `archive_results` returns for that side alone; `Write` if
+///the writer failed, and no side was refused before. A record after 9,223,372,036,854,775,807 others is `OutOfMemory`
+///of the side with it, the left one if both have it, and so is a retirement for which there is no memory. In that case
+///the writer has the first `written` bytes of an archive, and no end record: its bytes are not an archive's text.
 pub fn merge_streams<R: Source, S: Source, W: Sink>(
     heap: &Heap,
     left: &mut R,

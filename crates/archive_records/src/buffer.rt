@@ -10,7 +10,7 @@ ghost use Rattle.archive_records.specs.Reader.{BlamesReader, Fills, Pulls, seen_
 
 use crate::fault::RecordFaultKind;
 use byte_device::{Failed, Source, make_room};
-use memory::{Heap, NoMemory};
+use heap_memory::{Heap, NoMemory};
 use std::cmp::Ordering;
 
 /// A record that is being read: its first `at` bytes, and after them the rest of the last record.

@@ -24,7 +24,7 @@ use crate::next::{NextRecord, read_next};
 use crate::retired::{retirement_in, retires_beside, take};
 use archive_core::{RETIREMENT_LEN, Record, Retirements, Slice, SliceFacts};
 use byte_device::{Failed, PIECE_LEN, Source, is_at_end};
-use memory::{Heap, NoMemory};
+use heap_memory::{Heap, NoMemory};
 use std::cmp::Ordering;
 use std::marker::Model;
 use std::mem;

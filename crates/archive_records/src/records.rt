@@ -16,7 +16,7 @@ use crate::kind::TextKind;
 use crate::next::NextRecord;
 use crate::reader::RecordReader;
 use byte_device::Source;
-use memory::{Heap, NoMemory};
+use heap_memory::{Heap, NoMemory};
 
 /// A value that is built from the records of a file, one after another, and the answer that it returns at the end.
 pub trait FromRecords {

@@ -17,7 +17,7 @@ use crate::reader::RecordReader;
 use crate::records::{FromRecords, read_answer};
 use archive_core::Archive;
 use byte_device::Source;
-use memory::{Heap, NoMemory};
+use heap_memory::{Heap, NoMemory};
 use std::marker::Model;
 
 /// The entries of the operations of a content, each once, in ascending byte order. A contract sees it as the set of
@@ -141,7 +141,7 @@ impl FromRecords for Named {
 ///
 /// # Errors
 ///
-/// Those of `read_archive` of `archive_read`, in the same order and with the same offsets, without BadSlice,
+/// Those of `read_archive` of `archive_results`, in the same order and with the same offsets, without BadSlice,
 /// KeyMismatch, TooLarge and Covered: an entry has no slice.
 pub fn read_summary<R: Source>(heap: Heap, r: &mut R) -> Result<Summary, RecordFault>
     ensures { ReadsWhole SummaryFile (λ summary. summary) R.left R.failures r.old r.new result }

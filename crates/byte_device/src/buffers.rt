@@ -5,7 +5,7 @@ ghost use Rattle.std.specs.Io.KnownBytes.{ReadConsumes, WriteAppends};
 ghost use Rattle.byte_device.specs.Devices.{CountsFailure, most_failures};
 
 use crate::{Failed, Sink, Source};
-use memory::Heap;
+use heap_memory::Heap;
 
 /// The bytes of a slice. It never fails.
 #[derive(Drop)]

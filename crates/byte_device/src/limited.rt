@@ -6,7 +6,7 @@ ghost use Rattle.std.specs.Io.KnownBytes.{ReadConsumes, WriteAppends};
 ghost use Rattle.byte_device.specs.Devices.{CountsFailure, most_failures};
 
 use crate::{Failed, Sink, Source};
-use memory::Heap;
+use heap_memory::Heap;
 
 /// The bytes of a slice, a few at a time. After it has returned as many bytes as its limit, each pull fails, also at
 /// the end of the slice.

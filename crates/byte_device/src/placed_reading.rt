@@ -5,7 +5,7 @@ ghost use Rattle.byte_device.specs.Devices.{FailedIn, FailsWithin};
 ghost use Rattle.byte_device.specs.Places.{EndsBefore, Stands};
 
 use crate::{Failed, PIECE_LEN, Placed, ReadFault, make_room};
-use memory::{Heap, NoMemory};
+use heap_memory::{Heap, NoMemory};
 
 /// Reads `count` bytes from the offset; returns none if there are fewer.
 ///

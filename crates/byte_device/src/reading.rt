@@ -6,7 +6,7 @@ ghost use Rattle.std.specs.Io.KnownBytes.{Consumes, IsAtEnd};
 ghost use Rattle.byte_device.specs.Devices.{FailedIn};
 
 use crate::{Failed, PIECE_LEN, Source, make_room};
-use memory::{Heap, NoMemory};
+use heap_memory::{Heap, NoMemory};
 
 /// Why a source was not read to its end.
 #[derive(Clone, Copy, Debug, PartialEq, Eq)]

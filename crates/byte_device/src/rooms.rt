@@ -2,7 +2,7 @@
 
 ghost use Rattle.std.specs.Prelude.{◌≡◌, ◌≤◌, ◌*◌, OnOk, max, vec_capacity};
 
-use memory::{Heap, NoMemory};
+use heap_memory::{Heap, NoMemory};
 
 // From this capacity, memory grows by a quarter.
 const LARGE_ROOM: usize = 64 * 1024 * 1024;

@@ -4,7 +4,7 @@ ghost use Rattle.std.specs.Prelude.{◌≡◌, ◌∷◌, [], List, Option, IfOk
 ghost use Rattle.byte_device.specs.Disks.{FileAt, IsOpened, Path, opened_with};
 
 use byte_device::{CannotOpen, Placed, Source};
-use memory::NoMemory;
+use heap_memory::NoMemory;
 
 /// Files that are read by path.
 pub trait Disk {

@@ -14,7 +14,7 @@ use crate::losses::{check_losses, replaceable_beginning};
 use crate::replaceable::{Obstacle, OutFault, ReplaceRule};
 use crate::sameness::check_sameness;
 use crate::system_calls::{Own, System, SystemCalls};
-use memory::NoMemory;
+use heap_memory::NoMemory;
 use std::alloc::Global;
 use std::io::{self, ErrorKind};
 use std::path::Path;

@@ -12,7 +12,7 @@ ghost use Rattle.cli_files.specs.InputStates.{places_in, stage_of, unopened_in, 
 use crate::disks::Disk;
 use byte_device::{CannotOpen, Failed, Placed, Source};
 use byte_lazy_inputs::{Opening, Opens};
-use memory::NoMemory;
+use heap_memory::NoMemory;
 
 /// The state of an input.
 #[derive(Drop)]

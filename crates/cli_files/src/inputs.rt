@@ -7,7 +7,7 @@ ghost use Rattle.cli_files.specs.InputStates.{AreFirstAsked, AreWaiting};
 use crate::call_log::CallLog;
 use crate::input_state::LazyInput;
 use crate::system_disk::SystemDisk;
-use memory::NoMemory;
+use heap_memory::NoMemory;
 use std::alloc::Global;
 use std::rt::Files;
 

@@ -23,7 +23,7 @@ use crate::system_calls::{System, SystemCalls};
 use archive_merge::lost_operations;
 use archive_records::{MergeCause, MergeFault, RecordFaultKind};
 use byte_device::Source;
-use memory::Heap;
+use heap_memory::Heap;
 use std::alloc::Global;
 use std::io::{self, ErrorKind, Read};
 use std::rt::Files;

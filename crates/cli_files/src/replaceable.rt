@@ -7,7 +7,7 @@ ghost use Rattle.cli_files.specs.Replacing.{GivesWay, IsOfKind};
 
 use crate::opened_file::{LEADING_LEN, LeadingBytes};
 use archive_records::TextKind;
-use memory::NoMemory;
+use heap_memory::NoMemory;
 use std::io::{self, Read};
 
 /// The magic of an index.

@@ -8,7 +8,7 @@ use crate::disks::Disk;
 use crate::opened_file::OpenedFile;
 use crate::placed_file::PlacedFile;
 use byte_device::{CannotOpen, PIECE_LEN};
-use memory::NoMemory;
+use heap_memory::NoMemory;
 use std::alloc::Global;
 use std::fs;
 use std::io::{self, BufReader, ErrorKind, Read};

@@ -16,7 +16,7 @@ use crate::out_path::OutTarget;
 use crate::replaceable::ReplaceRule;
 use crate::system_calls::System;
 use byte_device::Output;
-use memory::NoMemory;
+use heap_memory::NoMemory;
 use std::alloc::Global;
 use std::rt::Files;
 

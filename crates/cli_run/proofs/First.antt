@@ -7,7 +7,7 @@ use Rattle.command_common.specs.Inputs.{Reader, reader, readers}
 use Rattle.byte_lazy_inputs.specs.declared.openings.Opening.{Opening}
 use Rattle.command_common.specs.Outputs.{Outs, Writer, out_of}
 use Rattle.command_common.specs.declared.faults.{CommandFault.CommandFault, Status.Status}
-use Rattle.command_write.specs.PassedOver.{EndsAdmit}
+use Rattle.command_archives.specs.PassedOver.{EndsAdmit}
 use Rattle.cli_run.specs.Plans.{Deed, EndsDeed, admitted_of, none, of_first}
 
 module _ {S : Type 0} (left : S → Option (List ℕ)) (failures : S → ℕ) (Holds : Deed → Type 0)

@@ -9,7 +9,7 @@ use Rattle.command_common.specs.declared.failures.Failure.{Failure, TheVariants.
 use Rattle.command_common.specs.{Outputs.Writer, Statuses.exit_status, declared.faults.Status.Status}
 use Rattle.command_common.specs.declared.faults.CommandFault.{CommandFault, TheVariants.OutOfMemory}
 use Rattle.cli_run.specs.{Ends.Ran, Files.Calls, Files.IsCarriedOut, Files.IsDone, Files.command_fault_of}
-use Rattle.cli_messages.specs.StandardError.{SaysFailure, SaysNotes}
+use Rattle.cli_standard_error.specs.StandardError.{SaysFailure, SaysNotes}
 
 module _ {S D T V : Type 0} (items : V → List Note) (calls : Calls S D T) (line : Line) where
   abbrev pub Done : Writer → Result (Status × V) Failure → Type 0

@@ -11,7 +11,7 @@ use Rattle.command_common.specs.declared.faults.{CommandFault.CommandFault, Inpu
 use Rattle.command_common.specs.declared.faults.CommandFault.TheVariants.{Input, Output, Report, OutOfMemory}
 use Rattle.command_common.specs.declared.faults.Why.TheVariants.{CannotOpen}
 use Rattle.cli_arguments.specs.{Inputs.Inputs, Inputs.of_kind, declared.commands.Kind.Kind}
-use Rattle.cli_messages.specs.Names.{input_at, kind_of, number_of}
+use Rattle.cli_standard_error.specs.Names.{input_at, kind_of, number_of}
 use Rattle.cli_run.specs.Unopened.{ReportsUnopened, fault_at, unopened_of}
 use Rattle.cli_run.specs.Openings.{HaveOneFile, IsRefusedByDisk}
 

@@ -12,12 +12,12 @@ use Rattle.command_common.specs.declared.faults.Why.TheVariants.{CannotOpen as N
 use Rattle.command_common.specs.{Ends.Command, Ends.Ends, Ends.EndsStreamed, Ends.Query, Ends.Streamed}
 use Rattle.command_common.specs.Outputs.{FailsAt, IsKept, Outs, Publishes, Writer, out_of, report_of}
 use Rattle.command_common.specs.declared.faults.Status.TheVariants.{Done}
-use Rattle.command_write.specs.PassedOver.{EndsPassing, Passing}
+use Rattle.command_archives.specs.PassedOver.{EndsPassing, Passing}
 use Rattle.cli_files.specs.{InputStates.Told, InputStates.opening_told, declared.input_state.Unopened.Unopened}
 use Rattle.command_common.specs.declared.notes.Note.{Note}
 use Rattle.cli_files.specs.declared.input_state.Unopened.TheVariants as unopened
 use Rattle.cli_run.specs.Disks.{Carried}
-use Rattle.cli_messages.specs.Names.{input_at}
+use Rattle.cli_standard_error.specs.Names.{input_at}
 use Rattle.cli_run.specs.Unopened.{ReportsUnopened, fault_at, unopened_of}
 use Rattle.cli_run.specs.Plans.{Deed, EndsDeed, EndsQuery, answers, changes, deed_of, empties, extracts, none, passes, readers_by, streams}
 use Rattle.cli_run.specs.Files.{IsNotPut, IsOutcome}

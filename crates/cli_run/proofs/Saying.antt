@@ -8,7 +8,7 @@ use Rattle.cli_arguments.specs.Lines.{error_kinds, is_in_order, named_command}
 use Rattle.cli_arguments.specs.declared.line_faults.LineFault.{LineFault}
 use Rattle.cli_arguments.specs.declared.line_faults.LineFault.TheVariants.{Help, Refused, OutOfMemory}
 use Rattle.command_common.specs.Outputs.{Writer}
-use Rattle.cli_messages.specs.Ending.{EndsLine, WantsMemory}
+use Rattle.cli_standard_error.specs.Ending.{EndsLine, WantsMemory}
 use Rattle.cli_run.specs.Ends.{IsHelped, IsRefused}
 
 -- ---- words that give no plan

@@ -8,9 +8,9 @@ use Rattle.archive_records.specs.declared.kind.TextKind.{TextKind}
 use Rattle.command_queries.specs.Frames.{AskedOfFrames, frames_held, prints_frames}
 use Rattle.archive_exchange.specs.Rehearse.{rehearse}
 use Rattle.command_queries.specs.Name.{name}
-use Rattle.command_write.specs.{Admit.admit_as_it_comes, Apply.apply_as_it_comes, Delta.delta_as_it_comes}
-use Rattle.command_write.specs.{MergeStreams.IsSide, MergeStreams.merge_as_it_comes, Migrate.migrate_as_it_comes}
-use Rattle.command_write.specs.Retire.{retire_as_it_comes}
+use Rattle.command_archives.specs.{Admit.admit_as_it_comes, Apply.apply_as_it_comes, Delta.delta_as_it_comes}
+use Rattle.command_archives.specs.{MergeStreams.IsSide, MergeStreams.merge_as_it_comes, Migrate.migrate_as_it_comes}
+use Rattle.command_archives.specs.Retire.{retire_as_it_comes}
 use Rattle.command_common.specs.Archives.{AreRefused, further_name}
 use Rattle.command_common.specs.Ends.{EndsStreamed, Query}
 use Rattle.command_common.specs.Inputs.{IsAccepted, IsArchive, IsArchiveRefused, IsFileRefused, IsFirstRefused, IsFrames}
@@ -27,15 +27,15 @@ use Rattle.index_format.specs.declared.fault.IndexingFault.TheVariants.{Archive 
 use Rattle.index_build.specs.Index.{TellsRefusal, TellsStop, index as index_of}
 use Rattle.index_build.specs.declared.fault.MakingFault.{MakingFault}
 use Rattle.index_build.specs.declared.fault.MakingFault.TheVariants.{Archive as Refused, Write as Wrote}
-use Rattle.command_index_queries.specs.{Indexes.IsOfOtherLength, Indexes.IsRefusedByIndex, Several.AreRefusedLater, Several.AreRefusedTogether}
-use Rattle.command_index_queries.specs.Together.{IsFirstRefusedByIndex, IsRefusedAtPlaces}
-use Rattle.text_inputs.specs.declared.frame.Frame.{Frame}
+use Rattle.command_index_evidence.specs.{Indexes.IsOfOtherLength, Indexes.IsRefusedByIndex, Several.AreRefusedLater, Several.AreRefusedTogether}
+use Rattle.command_index_evidence.specs.Together.{IsFirstRefusedByIndex, IsRefusedAtPlaces}
+use Rattle.text_scripts_and_frames.specs.declared.frame.Frame.{Frame}
 use Rattle.command_frames.specs.Asking.{AreRefusedAsking, IsTableRefused}
 use Rattle.command_frames.specs.Frames.{frames_at, frames_by_indexes, symbolicate_at}
-use Rattle.command_index_queries.specs.Find.{find_by}
+use Rattle.command_index_evidence.specs.Find.{find_by}
 use Rattle.command_extract.specs.{Entries.IsRefusedSlice, Extract.Extraction, Extract.Extracts, Indexed.AreRefusedBefore, Indexed.extract_at}
 use Rattle.byte_lazy_inputs.specs.declared.openings.Opening.{Opening}
-use Rattle.command_write.specs.PassedOver.{admit_passing_as_it_comes}
+use Rattle.command_archives.specs.PassedOver.{admit_passing_as_it_comes}
 use Rattle.cli_run.specs.Plans.{Deed, EndsDeed, Executes, answers, listed_of, none, of_first, passes, streams}
 use Rattle.cli_run.specs.Plans.{summarized_of, summary_of}
 use Rattle.cli_run.specs.Queries.{extract_of, extraction_if_paired, find_of, frames_of, if_paired, list_of, no_archive}

@@ -7,7 +7,7 @@ use Rattle.cli_arguments.specs.{Arguments.is_kind, Inputs.Inputs, Inputs.kinds_o
 use Rattle.cli_arguments.specs.{Lines.Line, Lines.inputs_of, declared.commands.Kind.Kind}
 use Rattle.command_common.proofs.Readers.{pairs_long}
 use Rattle.cli_arguments.proofs.Picking.{picked_paths}
-use Rattle.cli_messages.specs.Names.{AreOfLine}
+use Rattle.cli_standard_error.specs.Names.{AreOfLine}
 
 module _ {S : Type 0} (told : Told S) where
   picked_waiting : (kind : Kind) (ks : List Kind) (paths : List Path) (inputs : List S) → AreWaiting told paths inputs

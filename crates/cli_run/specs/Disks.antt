@@ -4,7 +4,7 @@ use Rattle.cli_files.specs.InputStates.{AreLazyInputs, Told, opening_told}
 use Rattle.cli_arguments.specs.{Inputs.Inputs, Inputs.of_kind, Lines.Line, declared.commands.Kind.Kind}
 use Rattle.command_common.specs.declared.faults.{CommandFault.CommandFault, Status.Status}
 use Rattle.command_common.specs.Outputs.{Outs, Writer}
-use Rattle.cli_messages.specs.Names.{AreOfLine}
+use Rattle.cli_standard_error.specs.Names.{AreOfLine}
 use Rattle.cli_run.specs.Unopened.{ReportsUnopened}
 use Rattle.command_common.specs.declared.notes.Note.{Note}
 use Rattle.cli_arguments.specs.{Plan.IsPlanOf, declared.plan.Plan.Plan}

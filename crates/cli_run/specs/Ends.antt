@@ -10,8 +10,8 @@ use Rattle.command_common.specs.declared.{failures.Failure.Failure, faults.Statu
 use Rattle.command_common.specs.{Outputs.Takes, Outputs.Writer, Statuses.exit_status}
 use Rattle.command_common.specs.declared.notes.Note.{Note}
 use Rattle.cli_run.specs.Files.{Calls, IsDone}
-use Rattle.cli_messages.specs.Ending.{Refuses, WantsMemory}
-use Rattle.cli_messages.specs.StandardError.{IsPushed, SaysEnd, reason_in}
+use Rattle.cli_standard_error.specs.Ending.{Refuses, WantsMemory}
+use Rattle.cli_standard_error.specs.StandardError.{IsPushed, SaysEnd, reason_in}
 
 -- No call to the system was noted, and no input was made.
 pub record IsIdle {S D T : Type 0} (calls : Calls S D T) : Type 0 where

@@ -11,13 +11,13 @@ use Rattle.command_common.specs.Ends.{Command, Ends, EndsReport, EndsStreamed, Q
 use Rattle.command_common.specs.Outputs.{Outs, Publishes, Writer, draft_of, out_of, report_of}
 use Rattle.cli_files.specs.declared.replaceable.ReplaceRule.{ReplaceRule}
 use Rattle.cli_files.specs.declared.replaceable.ReplaceRule.TheVariants.{ArchivesBelow, Summaries, Indexes, SameBytes}
-use Rattle.command_write.specs.{Admit.admit_as_it_comes, Apply.apply_as_it_comes, Delta.delta_as_it_comes}
-use Rattle.command_write.specs.{Summary.summary, Notes.NotesMissing, Retire.retire_as_it_comes}
-use Rattle.command_write.specs.PassedOver.{EndsPassing, NotesAdmit, Passing, admit_passing_as_it_comes}
+use Rattle.command_archives.specs.{Admit.admit_as_it_comes, Apply.apply_as_it_comes, Delta.delta_as_it_comes}
+use Rattle.command_archives.specs.{Summary.summary, Notes.NotesMissing, Retire.retire_as_it_comes}
+use Rattle.command_archives.specs.PassedOver.{EndsPassing, NotesAdmit, Passing, admit_passing_as_it_comes}
 use Rattle.byte_lazy_inputs.specs.declared.openings.Opening.{Opening}
-use Rattle.command_write.specs.{MergeStreams.merge_as_it_comes, Migrate.migrate_as_it_comes}
+use Rattle.command_archives.specs.{MergeStreams.merge_as_it_comes, Migrate.migrate_as_it_comes}
 use Rattle.command_common.specs.declared.notes.Note.{Note}
-use Rattle.command_index_queries.specs.Summary.{summary_at}
+use Rattle.command_index_evidence.specs.Summary.{summary_at}
 use Rattle.cli_run.specs.Queries.{NotesUnderscored, extract_of, find_of, frames_of, list_of, symbolicate_of}
 use Rattle.command_queries.specs.Name.{name}
 use Rattle.archive_exchange.specs.Rehearse.{rehearse}

@@ -7,7 +7,7 @@ use Rattle.cli_arguments.specs.Inputs.{Inputs}
 use Rattle.command_common.specs.declared.faults.{CommandFault.CommandFault, InputName.InputName, Status.Status}
 use Rattle.command_common.specs.declared.faults.CommandFault.TheVariants.{Input, Output, Report, OutOfMemory}
 use Rattle.command_common.specs.declared.faults.Why.{Why, TheVariants.CannotOpen as NotOpened}
-use Rattle.cli_messages.specs.Names.{input_at}
+use Rattle.cli_standard_error.specs.Names.{input_at}
 
 -- why an input was not opened at its first read, if it was not
 abbrev pub unopened_of : {S : Type 0} → Told S → Option S → Option Unopened

@@ -5,7 +5,7 @@ ghost use Rattle.command_common.specs.Outputs.{outs, writer};
 ghost use Rattle.cli_arguments.specs.Inputs.{inputs_view};
 ghost use Rattle.cli_arguments.specs.Lines.{Line};
 ghost use Rattle.cli_arguments.specs.Plan.{HasInputs, IsPlanOf};
-ghost use Rattle.cli_messages.specs.Names.{AreOfLine};
+ghost use Rattle.cli_standard_error.specs.Names.{AreOfLine};
 ghost use Rattle.cli_run.specs.Disks.{Carried};
 
 use crate::plans::execute_plan;
@@ -15,7 +15,7 @@ use byte_device::{Output, Sink, Target};
 use cli_arguments::{Inputs, Plan};
 use cli_files::{Disk, LazyInput};
 use command_common::{CommandFault, Note, Status};
-use memory::Heap;
+use heap_memory::Heap;
 
 /// Carries out a plan over inputs, each of which is opened at its first read. An input that cannot be opened fails like
 /// one that cannot be read; the result then has `CannotOpen` or `OutOfMemory`. Notes of the command are added to

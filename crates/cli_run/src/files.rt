@@ -14,7 +14,7 @@ ghost use Rattle.cli_arguments.specs.LineView.{line_view};
 ghost use Rattle.cli_run.specs.Files.{IsDone, calls_of, command_fault_of, out_failure};
 ghost use Rattle.cli_arguments.specs.Plan.{HasInputs, IsPlanOf};
 ghost use Rattle.cli_arguments.specs.declared.plan.Plan.{Plan};
-ghost use Rattle.cli_messages.specs.Names.{AreOfLine};
+ghost use Rattle.cli_standard_error.specs.Names.{AreOfLine};
 
 use crate::execute_on;
 use crate::plans::replace_rule;
@@ -25,9 +25,9 @@ use cli_files::{
     Disk, OpenedFile, OutFault, OutFile, OutTarget, PlacedFile, ReplaceRule, SystemDisk,
     SystemFiles, SystemInput,
 };
-use cli_messages::Seen;
+use cli_standard_error::Seen;
 use command_common::{CommandFault, Failure, Note, Status};
-use memory::{Heap, NoMemory};
+use heap_memory::{Heap, NoMemory};
 use std::io::BufReader;
 use std::rt::Files;
 

@@ -18,7 +18,7 @@ ghost use Rattle.cli_arguments.specs.Lines.{Line};
 ghost use Rattle.cli_arguments.specs.declared.plan.Plan.{Plan};
 ghost use Rattle.cli_run.specs.Disks.{Carried};
 ghost use Rattle.cli_run.specs.Files.{Calls, IsCarriedOut};
-ghost use Rattle.cli_messages.specs.Names.{input_at};
+ghost use Rattle.cli_standard_error.specs.Names.{input_at};
 ghost use Rattle.cli_run.specs.Openings.{HaveOneFile, IsRefusedByDisk};
 
 use byte_device::{Sink, Source, Target};

@@ -14,9 +14,9 @@ use byte_device::{Output, Placed, Sink, Source, Target};
 use byte_lazy_inputs::Opens;
 use cli_arguments::{Inputs, Plan};
 use cli_files::ReplaceRule;
+use command_archives::run_new;
 use command_common::{CommandFault, Note, Status};
-use command_write::run_new;
-use memory::Heap;
+use heap_memory::Heap;
 
 /// Which files the OUT of a plan replaces: a summary or an index one of its own kind, a slice a file with the same
 /// bytes, an archive one below it.

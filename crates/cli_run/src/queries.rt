@@ -22,9 +22,9 @@ use command_common::{
     CommandFault, InputName, Note, Records, Status, Why, first_and_rest, write_report,
 };
 use command_frames::{run_frames, run_symbolicate};
-use command_index_queries::Indexes;
+use command_index_evidence::Indexes;
 use command_queries::{answer_name, run_find, run_list};
-use memory::{Heap, NoMemory};
+use heap_memory::{Heap, NoMemory};
 use uuid::Uuid;
 
 /// Refuses the first index without an archive, or the first archive without an index.

@@ -7,14 +7,14 @@ ghost use Rattle.cli_files.specs.LazyInputs.{told_by};
 ghost use Rattle.cli_files.specs.Fresh.{AreFresh};
 ghost use Rattle.cli_arguments.specs.LineView.{line_view};
 ghost use Rattle.cli_run.specs.Files.{calls_of};
-ghost use Rattle.cli_messages.specs.Ending.{IsUnreadable, WantsMemory};
+ghost use Rattle.cli_standard_error.specs.Ending.{IsUnreadable, WantsMemory};
 ghost use Rattle.cli_run.specs.Ends.{EndsWords, IsIdle};
 
 use crate::files::execute_line;
 use byte_device::{Placed, Sink, Source, Target};
 use cli_arguments::{Plan, parse_command_line};
 use cli_files::{Disk, OpenedFile, OutFile, OutTarget, PlacedFile, SystemDisk, SystemFiles};
-use cli_messages::{Seen, end, end_with_line_fault, refuse_words};
+use cli_standard_error::{Seen, end, end_with_line_fault, refuse_words};
 use std::io::{self, BufReader, ErrorKind};
 use std::rt::Files;
 

@@ -3,12 +3,12 @@
 ghost use Rattle.std.specs.Prelude.{◌≡◌};
 ghost use Rattle.cli_files.specs.LazyInputs.{told};
 ghost use Rattle.cli_arguments.specs.Inputs.{inputs_view};
-ghost use Rattle.cli_messages.specs.Names.{input_at};
+ghost use Rattle.cli_standard_error.specs.Names.{input_at};
 ghost use Rattle.cli_run.specs.Unopened.{ReportsUnopened, fault_at, unopened_of};
 
 use cli_arguments::Inputs;
 use cli_files::{Disk, LazyInput, Unopened};
-use cli_messages::input_at;
+use cli_standard_error::input_at;
 use command_common::{CommandFault, InputName, Status, Why};
 
 /// Why the input with this name was not opened, if it was not.

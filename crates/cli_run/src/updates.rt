@@ -16,14 +16,14 @@ use archive_core::{Archive, Digest, SliceKey};
 use byte_device::{Output, Placed, Sink, Source, Target};
 use byte_lazy_inputs::Opens;
 use cli_arguments::{Inputs, Plan};
-use command_common::{CommandFault, Note, Records, Status, first_and_rest};
-use command_extract::run_extract;
-use command_index_queries::Indexes;
-use command_write::{
+use command_archives::{
     run_admit, run_apply, run_delta, run_merge, run_migrate, run_retire, run_summary,
 };
+use command_common::{CommandFault, Note, Records, Status, first_and_rest};
+use command_extract::run_extract;
+use command_index_evidence::Indexes;
+use heap_memory::Heap;
 use index_build::run_index;
-use memory::Heap;
 
 /// `extract` over archives, which are read by these indexes, if there are any.
 pub fn extract<A: Archive + Drop, S: Source + Placed, T: Target, P: Sink>(

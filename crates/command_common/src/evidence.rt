@@ -9,7 +9,7 @@ ghost use Rattle.command_common.specs.Inputs.{ReadsInputs};
 use crate::faults::CommandFault;
 use archive_core::{Archive, FindRow};
 use archive_records::Summary;
-use memory::Heap;
+use heap_memory::Heap;
 use uuid::Uuid;
 
 /// Archives by the inputs that a command reads: their records, or their indexes. A value borrows the inputs; a ghost

@@ -2,7 +2,7 @@
 
 use crate::faults::CommandFault;
 use byte_device::CannotCreate;
-use memory::NoMemory;
+use heap_memory::NoMemory;
 use std::error::Error;
 use std::fmt;
 

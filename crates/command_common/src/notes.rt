@@ -1,7 +1,7 @@
 //! The notes of a command that succeeded: requested records or names that are not there.
 
 use archive_core::{Digest, SliceKey};
-use memory::Heap;
+use heap_memory::Heap;
 use std::fmt;
 use text_reports::{Escaped, Text};
 use text_values::Spelled;

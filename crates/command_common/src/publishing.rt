@@ -11,7 +11,7 @@ use crate::faults::{CommandFault, Status};
 use archive_core::Archive;
 use archive_records::{Sizes, Summary, write_archive, write_summary};
 use byte_device::{Failed, Output, Sink, Target, push_all};
-use memory::Heap;
+use heap_memory::Heap;
 use text_reports::{summary_line, with_sizes};
 
 /// Publishes an output whose draft has accepted this number of bytes.

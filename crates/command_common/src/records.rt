@@ -11,10 +11,10 @@ use crate::faults::CommandFault;
 use crate::sources::{read_rows, summarize_archive};
 use crate::together::{read_parts, uuid_bytes};
 use archive_core::{Archive, FindRow};
-use archive_read::Under;
 use archive_records::Summary;
+use archive_results::Under;
 use byte_device::Source;
-use memory::Heap;
+use heap_memory::Heap;
 use uuid::Uuid;
 
 /// Archives in the order of the command line, each read to its end.

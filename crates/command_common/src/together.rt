@@ -4,7 +4,7 @@ ghost use Rattle.archive_core.specs.Content.{Operations, joined};
 ghost use Rattle.archive_core.specs.Key.{key_bytes};
 ghost use Rattle.archive_core.specs.Part.{is_under, part};
 ghost use Rattle.archive_core.specs.declared.keys.SliceKey.{SliceKey};
-ghost use Rattle.archive_read.specs.Keys.{AnswersAs, AreInOrder, first_key};
+ghost use Rattle.archive_results.specs.Keys.{AnswersAs, AreInOrder, first_key};
 ghost use Rattle.command_common.specs.Archives.{ReadsOthers, ReadsTogether};
 ghost use Rattle.command_common.specs.Inputs.{HoldsContent, IsRefusedArchive, ReadsInput, reader, readers};
 ghost use Rattle.command_common.specs.InnerTogether.{HasJoinedParts};
@@ -13,10 +13,10 @@ ghost use Rattle.command_common.specs.Together.{AreAlikeWhere};
 use crate::faults::CommandFault;
 use crate::sources::{answer_from_archive, read_archive_part};
 use archive_core::{Archive, SliceKey, take_all};
-use archive_read::{Questions, Selects};
 use archive_records::key_prefix;
+use archive_results::{Questions, Selects};
 use byte_device::Source;
-use memory::{Heap, NoMemory};
+use heap_memory::{Heap, NoMemory};
 use uuid::Uuid;
 
 /// Joins the selected records of the archive with this number on the command line.

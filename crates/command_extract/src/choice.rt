@@ -1,7 +1,7 @@
 //! The choice of a wanted slice.
 
 use archive_core::{Digest, FindRow};
-use memory::Heap;
+use heap_memory::Heap;
 
 /// A chosen slice.
 #[derive(Drop)]

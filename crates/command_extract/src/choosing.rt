@@ -15,7 +15,7 @@ ghost use Rattle.command_extract.specs.Wanted.{slice_row};
 
 use crate::choice::{Choice, Chosen};
 use archive_core::{Archive, CheckedSlice, Digest, FindRow, Record, Slice, SliceKey, is_key};
-use memory::{Heap, NoMemory};
+use heap_memory::{Heap, NoMemory};
 
 /// The row of a slice.
 fn row(slice: &Slice) -> FindRow

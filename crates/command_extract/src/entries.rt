@@ -4,9 +4,9 @@ ghost use Rattle.std.specs.Prelude.{◌≡◌, ◌∷◌, ◌≢◌, [], IfOk, I
 ghost use Rattle.command_extract.specs.InnerEntries.{IsEntryChoice};
 
 use archive_core::{Digest, FindRow, SliceKey};
+use heap_memory::{Heap, NoMemory};
 use index_format::Index;
 use index_lookup::{NamedSlice, named_among, named_with};
-use memory::{Heap, NoMemory};
 
 /// The choice of a wanted slice by the entries of indexes.
 #[derive(Drop)]

@@ -13,7 +13,7 @@ use crate::choice::{Choice, Chosen};
 use archive_core::{Digest, SliceKey};
 use byte_device::Sink;
 use command_common::{CommandFault, Evidence};
-use memory::Heap;
+use heap_memory::Heap;
 
 /// Evidence that has slices: the records of archives, which are held as an `A`, or their indexes.
 pub trait SliceEvidence<A>: Evidence {

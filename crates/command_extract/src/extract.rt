@@ -13,7 +13,7 @@ use crate::lines::{line_of, report_rows};
 use archive_core::{Digest, SliceKey};
 use byte_device::{Output, Sink, Target};
 use command_common::{CommandFault, Status, publish_output, write_report};
-use memory::Heap;
+use heap_memory::Heap;
 
 /// Writes the bytes of the one slice that answers under the key in the join of the archives to OUT, or of a held one
 /// with the digest, and its line to the report. The inputs are read, and a slice is chosen, before OUT is created.

@@ -17,10 +17,10 @@ use crate::sending::send_from;
 use archive_core::{Archive, Digest, SliceKey};
 use byte_device::{Placed, Sink};
 use command_common::{CommandFault, bytes_of};
-use command_index_queries::{Indexes, KeyPrefix, read_indexes, read_prefixes};
+use command_index_evidence::{Indexes, KeyPrefix, read_indexes, read_prefixes};
+use heap_memory::Heap;
 use index_format::Index;
 use index_lookup::NamedSlice;
-use memory::Heap;
 
 /// Chooses among the slices that the indexes, which were read before, name under a key. The slices are read at their
 /// offsets, tested and hashed, and kept.

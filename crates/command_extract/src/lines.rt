@@ -8,7 +8,7 @@ ghost use Rattle.command_extract.specs.Wanted.{line_of};
 use archive_core::{Digest, FindRow, SliceKey};
 use byte_device::Sink;
 use command_common::{CommandFault, Status, write_report};
-use memory::{Heap, NoMemory};
+use heap_memory::{Heap, NoMemory};
 use text_reports::{Text, find_lines};
 use text_values::Spelled;
 

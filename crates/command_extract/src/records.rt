@@ -11,10 +11,10 @@ use crate::choosing::choose_in;
 use crate::evidence::SliceEvidence;
 use crate::kept::{Kept, send_kept};
 use archive_core::{Archive, Digest, SliceKey};
-use archive_read::Under;
+use archive_results::Under;
 use byte_device::{Sink, Source};
 use command_common::{CommandFault, Records, bytes_of, first_and_rest, read_parts};
-use memory::Heap;
+use heap_memory::Heap;
 
 /// Chooses a slice from an archive and others, which are read one after another, each to its end. Their records under
 /// the key are kept.

@@ -13,8 +13,8 @@ use crate::tested_copy::{SendFault, send_at};
 use archive_records::{ADMISSION_HEAD_LEN, RecordFault, RecordFaultKind};
 use byte_device::{PIECE_LEN, Placed, Sink};
 use command_common::{CommandFault, InputName, Why};
+use heap_memory::{Heap, NoMemory};
 use index_lookup::NamedSlice;
-use memory::{Heap, NoMemory};
 
 /// A buffer for one piece.
 fn room_for_piece(heap: Heap) -> Result<Vec<u8, Heap>, NoMemory>

@@ -14,8 +14,8 @@ use crate::tied::answer_by_slices;
 use archive_core::{Archive, SliceKey, Where};
 use byte_device::Placed;
 use command_common::CommandFault;
+use heap_memory::Heap;
 use index_format::Index;
-use memory::Heap;
 
 /// A key that was asked for, and the answers for its addresses, or its refusal.
 #[derive(Drop)]

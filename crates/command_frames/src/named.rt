@@ -9,9 +9,9 @@ ghost use Rattle.command_queries.specs.Frames.{frame_keys};
 ghost use Rattle.command_queries.specs.Slices.{AreUuidsOf};
 
 use archive_core::SliceKey;
-use memory::{Heap, NoMemory};
+use heap_memory::{Heap, NoMemory};
 use std::cmp::Ordering;
-use text_inputs::Frame;
+use text_scripts_and_frames::Frame;
 use uuid::Uuid;
 
 /// The key itself; its parts have their widths.

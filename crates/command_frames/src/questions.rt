@@ -10,10 +10,10 @@ use crate::key_answers::KeyAnswers;
 use crate::places::AskedKey;
 use crate::tables::KeyReply;
 use archive_core::{Archive, SliceKey};
-use archive_read::{Questions, Selects};
 use archive_records::key_prefix;
+use archive_results::{Questions, Selects};
 use command_queries::answer_places;
-use memory::{Heap, NoMemory};
+use heap_memory::{Heap, NoMemory};
 
 /// Keys in ascending order.
 #[derive(Drop)]

@@ -15,9 +15,9 @@ use crate::places::{AskedPlace, compare_places};
 use crate::tables::KeyReply;
 use archive_core::{SliceKey, compare_keys};
 use command_common::{CommandFault, Status};
-use memory::{Heap, NoMemory};
-use text_inputs::Frame;
+use heap_memory::{Heap, NoMemory};
 use text_reports::Text;
+use text_scripts_and_frames::Frame;
 use text_values::Address;
 
 /// The answers that have the answer for a frame: those of its key, and the number of its address there.

@@ -11,8 +11,8 @@ use crate::named::whole_key;
 use archive_core::{Archive, SliceKey};
 use byte_device::Sink;
 use command_common::{CommandFault, Status, write_report_bytes};
-use memory::{Heap, NoMemory};
-use text_inputs::Frame;
+use heap_memory::{Heap, NoMemory};
+use text_scripts_and_frames::Frame;
 
 /// The frames of address arguments, in order.
 fn frames_under_key(

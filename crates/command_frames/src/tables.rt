@@ -18,10 +18,10 @@ use byte_device::Placed;
 use command_common::{CommandFault, InputName, Status, Why};
 use command_queries::{PlaceAnswer, address_in, status_after};
 use dwarf_source_frames::SourceFrame;
+use heap_memory::{Heap, NoMemory};
 use index_format::{Index, IndexFault, IndexFaultKind};
 use index_lookup::laws::each_told;
 use index_lookup::{AnswerFault, Answers, answer_among, answering_entries};
-use memory::{Heap, NoMemory};
 use text_reports::push_answer;
 
 /// The fault of a command for a fault of asking tables.

@@ -12,10 +12,10 @@ use crate::tables::KeyReply;
 use archive_core::{Archive, SliceKey, Where};
 use byte_device::Placed;
 use command_common::{CommandFault, Why};
-use command_index_queries::{KeyPrefix, read_prefixes};
+use command_index_evidence::{KeyPrefix, read_prefixes};
 use command_queries::answer_places;
+use heap_memory::Heap;
 use index_format::Index;
-use memory::Heap;
 
 /// Whether an index is stale at an entry.
 fn is_stale_entry(why: Why) -> bool

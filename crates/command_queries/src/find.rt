@@ -7,7 +7,7 @@ ghost use Rattle.command_common.specs.Outputs.{writer};
 use archive_core::Archive;
 use byte_device::Sink;
 use command_common::{CommandFault, Evidence, Status, found_status, write_report};
-use memory::Heap;
+use heap_memory::Heap;
 use text_reports::find_lines;
 use uuid::Uuid;
 

@@ -6,7 +6,7 @@ ghost use Rattle.command_common.specs.Outputs.{writer};
 
 use byte_device::Sink;
 use command_common::{CommandFault, Evidence, Status, found_status, write_report};
-use memory::Heap;
+use heap_memory::Heap;
 use text_reports::list_lines;
 
 /// Writes to the report a row for each retirement and each live slice of the archive, by UUID and then as `find` orders

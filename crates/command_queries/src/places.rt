@@ -9,7 +9,7 @@ use crate::addresses::status_after;
 use crate::source_frames::SourceFrames;
 use archive_core::{Archive, SliceKey, Where};
 use command_common::Status;
-use memory::{Heap, NoMemory};
+use heap_memory::{Heap, NoMemory};
 use text_reports::push_answer;
 
 /// The answer for an address: the status of a command that prints only it, and its lines.

@@ -11,7 +11,7 @@ use archive_core::{Archive, Slice, SliceKey, Where};
 use archive_index::file_address;
 use dwarf_asked_frames::{AddressFrames, frames_of};
 use dwarf_source_frames::SourceFrame;
-use memory::{Heap, NoMemory};
+use heap_memory::{Heap, NoMemory};
 
 /// A slice that answers, and the frames found in it.
 #[derive(Drop)]

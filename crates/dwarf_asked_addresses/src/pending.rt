@@ -6,7 +6,7 @@ ghost use Rattle.std.specs.Ordering.{nat_cmp};
 ghost use Rattle.std.specs.BTreeSet as tree_set;
 ghost use Rattle.dwarf_asked_addresses.specs.Assigned.{Assigns};
 
-use memory::{Heap, NoMemory};
+use heap_memory::{Heap, NoMemory};
 use std::collections::{BTreeMap, BTreeSet};
 
 /// The addresses, as a set.

@@ -4,7 +4,7 @@ ghost use Rattle.std.specs.Prelude.{◌↔◌, ◌≤◌, ℕ, length};
 ghost use Rattle.std.specs.List.{Contains};
 ghost use Rattle.dwarf_asked_addresses.specs.Rising.{IsCountBelow, AreRising};
 
-use memory::Heap;
+use heap_memory::Heap;
 
 /// These numbers in ascending order, each once.
 pub fn sorted_once(mut all: Vec<u64, Heap>) -> Vec<u64, Heap>

@@ -3,7 +3,7 @@
 ghost use Rattle.std.specs.Prelude.{◌≡◌, ◌<◌, ◌+◌, ◌^◌, ℕ, IfOk, length};
 ghost use Rattle.dwarf_asked_addresses.specs.Waiting.{AreNext, IsFirstWaiting, Waits, WaitTheSame, WaitWithout};
 
-use memory::{Heap, NoMemory};
+use heap_memory::{Heap, NoMemory};
 
 /// Indexes, some of which wait. Each has a next index, at or above it; those from it on, below the next one, do not
 /// wait. The last index always waits.

@@ -14,8 +14,8 @@ use crate::unit_frames::find_unit;
 use dwarf_asked_addresses::sorted_once;
 use dwarf_encoding::Units;
 use dwarf_source_frames::{ByUnit, DebugInfo, SourceFrame, by_unit, take_unit};
+use heap_memory::{Heap, NoMemory};
 use macho_image::Image;
-use memory::{Heap, NoMemory};
 use std::collections::BTreeMap;
 
 /// The frames of addresses of an image.

@@ -11,7 +11,7 @@ use crate::found::FrameList;
 use dwarf_functions::{Link, Links};
 use dwarf_lines::Row;
 use dwarf_source_frames::{SourceFrame, SourceLocation, UnitLines};
-use memory::{Heap, NoMemory};
+use heap_memory::{Heap, NoMemory};
 
 /// The frame of a link at a source location.
 fn frame_at<'a>(lines: &UnitLines<'a>, link: &Link<'a>, place: SourceLocation) -> SourceFrame<'a>

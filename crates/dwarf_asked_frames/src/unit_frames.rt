@@ -14,7 +14,7 @@ use crate::link_frames::frames_at;
 use dwarf_encoding::Units;
 use dwarf_functions::{Links, RowSteps};
 use dwarf_source_frames::{DebugInfo, DebugUnit, UnitLines};
-use memory::{Heap, NoMemory};
+use heap_memory::{Heap, NoMemory};
 
 /// Finds the frames of addresses of a unit, which ascend. The unit is read once, and its program is run once.
 fn find_in<'a>(

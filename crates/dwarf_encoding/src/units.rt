@@ -8,7 +8,7 @@ ghost use Rattle.std.specs.BTreeMap as tree_map;
 ghost use Rattle.dwarf_encoding.specs.Units.{initial_length, is_64_bit, unit_at, unit_of, IsUnitWith};
 
 use crate::little_endian::{u32_le_at, u64_le_at};
-use memory::{Heap, NoMemory};
+use heap_memory::{Heap, NoMemory};
 use std::collections::BTreeMap;
 use std::marker::Model;
 

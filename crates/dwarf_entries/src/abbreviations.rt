@@ -9,7 +9,7 @@ ghost use Rattle.dwarf_entries.specs.DeclarationViews.{declaration_in, declarati
 use crate::declaration::Declaration;
 use crate::declarations::{Declarations, DeclarationsByCode, Rows, row_in};
 use crate::reading::read_declaration;
-use memory::{Heap, NoMemory};
+use heap_memory::{Heap, NoMemory};
 use std::marker::Model;
 
 /// The declarations of `__debug_abbrev`, up to the first that cannot be read. The section is read once for all units. A

@@ -8,7 +8,7 @@ ghost use Rattle.std.specs.BTreeMap as tree_map;
 ghost use Rattle.dwarf_entries.specs.DeclarationViews.{declaration_in, declaration_view, row_in, rows_or_none};
 
 use crate::declaration::Declaration;
-use memory::{Heap, NoMemory};
+use heap_memory::{Heap, NoMemory};
 use std::collections::BTreeMap;
 
 /// The declarations of a table with the codes 1, 2, 3 and so on, as far as they have this order.

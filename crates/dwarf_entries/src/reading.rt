@@ -9,7 +9,7 @@ use crate::declaration::{Declaration, total_size};
 use crate::dw::DW_CHILDREN_YES;
 use crate::specification::read_shape;
 use dwarf_encoding::unsigned_leb128;
-use memory::{Heap, NoMemory};
+use heap_memory::{Heap, NoMemory};
 
 /// A declaration from its tag on, and the bytes after it.
 #[tactic(auto, unfolding(crate::specs::Abbreviations::declaration_body_at))]

@@ -8,7 +8,7 @@ ghost use Rattle.dwarf_entries.specs.ShapeViews.{shape_view};
 use crate::attributes::Attributes;
 use dwarf_encoding::dw_form::{DW_FORM_FLAG_PRESENT, DW_FORM_IMPLICIT_CONST};
 use dwarf_encoding::{Value, signed_leb128, unsigned_leb128};
-use memory::{Heap, NoMemory};
+use heap_memory::{Heap, NoMemory};
 
 /// An attribute specification.
 #[derive(Clone, Copy)]

@@ -21,7 +21,7 @@ use dwarf_asked_addresses::count_below;
 use dwarf_functions::{Links, RowSteps};
 use dwarf_lines::Row;
 use dwarf_source_frames::{DebugInfo, DebugUnit, SourceLocation, UnitLines};
-use memory::{Heap, NoMemory};
+use heap_memory::{Heap, NoMemory};
 
 /// The parts of a unit from which its frames are built.
 #[derive(Drop)]

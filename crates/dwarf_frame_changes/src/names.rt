@@ -10,7 +10,7 @@ ghost use Rattle.dwarf_functions.specs.declared.links.Link.{Link};
 
 use crate::sink::FrameSink;
 use dwarf_functions::{Link, Links};
-use memory::{Heap, NoMemory};
+use heap_memory::{Heap, NoMemory};
 
 /// The sink's numbers of names, by the unit's own numbers of names.
 #[derive(Drop)]

@@ -17,7 +17,7 @@ use crate::sink::FrameSink;
 use dwarf_functions::{Link, Links};
 use dwarf_lines::Row;
 use dwarf_source_frames::{SourceLocation, UnitLines};
-use memory::{Heap, NoMemory};
+use heap_memory::{Heap, NoMemory};
 use std::collections::BTreeMap;
 
 /// The numbers of paths by the indexes of their files, and the index that was looked up last, with its number.

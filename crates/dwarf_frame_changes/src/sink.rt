@@ -9,7 +9,7 @@ ghost use Rattle.dwarf_lines.specs.PathViews.{path_view};
 ghost use Rattle.dwarf_source_frames.specs.Frames.{FrameRecord};
 
 use dwarf_lines::PathParts;
-use memory::NoMemory;
+use heap_memory::NoMemory;
 
 /// A receiver of turns with their frames. It returns numbers for names, paths and frames, so that each is passed to it
 /// once; a number keeps its meaning from then on.

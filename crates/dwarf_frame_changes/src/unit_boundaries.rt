@@ -16,7 +16,7 @@ use dwarf_asked_addresses::sorted_once;
 use dwarf_encoding::split_unit;
 use dwarf_ranges::{Arange, Aranges, Ranges, named_units};
 use dwarf_source_frames::DebugInfo;
-use memory::{Heap, NoMemory};
+use heap_memory::{Heap, NoMemory};
 use std::collections::BTreeSet;
 
 /// Adds the addresses at which ranges begin and end.

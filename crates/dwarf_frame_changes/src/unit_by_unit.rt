@@ -22,8 +22,8 @@ use dwarf_asked_addresses::sorted_once;
 use dwarf_encoding::Units;
 use dwarf_functions::RowSteps;
 use dwarf_source_frames::{ByUnit, DebugInfo, UnitLines, take_unit};
+use heap_memory::{Heap, NoMemory};
 use macho_image::Image;
-use memory::{Heap, NoMemory};
 
 /// A unit: the offset of its program, its own offset, and its boundaries.
 #[derive(Drop)]

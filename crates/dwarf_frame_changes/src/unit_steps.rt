@@ -11,7 +11,7 @@ ghost use Rattle.dwarf_source_frames.specs.SectionsViews.{sections_view};
 use crate::next_start::start_at;
 use crate::unit_boundaries::boundaries;
 use dwarf_source_frames::{ByUnit, DebugInfo, by_unit};
-use memory::{Heap, NoMemory};
+use heap_memory::{Heap, NoMemory};
 
 /// The boundaries of units, ascending, each with the offset of the unit from there on.
 #[derive(Drop)]

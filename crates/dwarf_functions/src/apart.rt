@@ -6,7 +6,7 @@ ghost use Rattle.dwarf_ranges.specs.Lists.{in_ranges};
 ghost use Rattle.dwarf_functions.specs.Apart.{AreApart};
 
 use dwarf_ranges::CodeRange;
-use memory::{Heap, NoMemory};
+use heap_memory::{Heap, NoMemory};
 
 /// These ranges, in the order of their first addresses.
 fn in_order(heap: Heap, ranges: &[CodeRange]) -> Result<Vec<CodeRange, Heap>, NoMemory>

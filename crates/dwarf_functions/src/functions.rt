@@ -22,7 +22,7 @@ use dwarf_ranges::{CodeRange, Ranges, UnitRanges};
 use dwarf_source_frames::{
     DebugInfo, DebugUnit, SourceLocation, UnitEntry, is_function, is_subprogram, scope_ranges,
 };
-use memory::{Heap, NoMemory};
+use heap_memory::{Heap, NoMemory};
 
 /// A function of a unit.
 #[derive(Clone, Copy)]

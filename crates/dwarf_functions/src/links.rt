@@ -21,7 +21,7 @@ use crate::taking::Taking;
 use dwarf_asked_addresses::{Waiting, sorted_once};
 use dwarf_ranges::CodeRange;
 use dwarf_source_frames::{DebugInfo, DebugUnit, SourceLocation};
-use memory::{Heap, NoMemory};
+use heap_memory::{Heap, NoMemory};
 
 /// A function in the link of the function that calls it.
 #[derive(Clone, Copy)]

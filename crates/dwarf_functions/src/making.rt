@@ -5,7 +5,7 @@ ghost use Rattle.dwarf_functions.specs.Making.{AreKept, AreMade, IsLinkIn, calle
 
 use crate::functions::{Function, Functions};
 use crate::links::Link;
-use memory::{Heap, NoMemory};
+use heap_memory::{Heap, NoMemory};
 
 /// Links that are being built: `last` is the number of the last link that is nested in none, or 0.
 #[derive(Drop)]

@@ -9,7 +9,7 @@ ghost use Rattle.dwarf_functions.specs.declared.origins.Origin.{Origin};
 
 use dwarf_entries::{Attribute, Entry};
 use dwarf_source_frames::DebugUnit;
-use memory::{Heap, NoMemory};
+use heap_memory::{Heap, NoMemory};
 
 /// The largest number of offsets to keep.
 const PLACES_MAX: u64 = 1024;

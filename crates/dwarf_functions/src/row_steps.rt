@@ -13,7 +13,7 @@ ghost use Rattle.dwarf_functions.specs.RowSteps.{AreRowSteps};
 use dwarf_asked_addresses::{Waiting, count_below, sorted_once};
 use dwarf_lines::{Row, Rows};
 use dwarf_source_frames::UnitLines;
-use memory::{Heap, NoMemory};
+use heap_memory::{Heap, NoMemory};
 
 /// The addresses from each start on, up to the next start, have a row, or none.
 #[derive(Drop)]

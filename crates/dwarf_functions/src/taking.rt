@@ -10,7 +10,7 @@ use crate::apart::apart_of;
 use crate::making::Making;
 use dwarf_asked_addresses::{Waiting, count_below};
 use dwarf_ranges::CodeRange;
-use memory::{Heap, NoMemory};
+use heap_memory::{Heap, NoMemory};
 
 /// The largest number of frames of an address.
 const FRAMES_MAX: usize = 256;

@@ -11,7 +11,7 @@ ghost use Rattle.dwarf_lines.specs.NameViews.{name_view, fields_view};
 use crate::names::Name;
 use dwarf_encoding::dw_form::*;
 use dwarf_encoding::{Value, read_value, unsigned_leb128};
-use memory::{Heap, NoMemory};
+use heap_memory::{Heap, NoMemory};
 
 /// The content type code of a path.
 const DW_LNCT_PATH: u64 = 1;

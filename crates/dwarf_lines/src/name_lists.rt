@@ -8,7 +8,7 @@ ghost use Rattle.dwarf_lines.specs.NameViews.{name_view};
 
 use crate::names::Name;
 use dwarf_encoding::{Value, read_text, unsigned_leb128};
-use memory::{Heap, NoMemory};
+use heap_memory::{Heap, NoMemory};
 
 /// The index of a file's directory, and the bytes after its time and its length; for a directory 0, and the same bytes.
 #[tactic(auto, unfolding(crate::specs::Names::directory_index_at))]

@@ -9,7 +9,7 @@ use crate::header::{has_header, name_bytes, version};
 use crate::name_entries::read_entries;
 use crate::name_lists::read_listed_names;
 use dwarf_encoding::Value;
-use memory::{Heap, NoMemory};
+use heap_memory::{Heap, NoMemory};
 
 /// A directory or a file.
 #[derive(Clone, Copy)]

@@ -10,7 +10,7 @@ ghost use Rattle.dwarf_lines.specs.PathViews.{path_view};
 
 use crate::names::{Name, Names};
 use dwarf_encoding::TextSections;
-use memory::{Heap, NoMemory};
+use heap_memory::{Heap, NoMemory};
 
 /// The parts of a path, which are joined on demand. An unknown part is empty.
 #[derive(Clone, Copy)]

@@ -5,7 +5,7 @@ ghost use Rattle.dwarf_ranges.specs.Assigned.{AssignsRanges};
 
 use crate::range_lists::Ranges;
 use dwarf_asked_addresses::assign_within;
-use memory::{Heap, NoMemory};
+use heap_memory::{Heap, NoMemory};
 use std::collections::{BTreeMap, BTreeSet};
 
 /// Assigns a value to each pending address in the ranges, which is then no longer pending. The time is that of the

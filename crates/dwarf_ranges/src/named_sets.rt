@@ -7,7 +7,7 @@ ghost use Rattle.dwarf_ranges.specs.Aranges.{is_named, names_unit};
 
 use crate::aranges::header_of;
 use dwarf_encoding::split_unit;
-use memory::{Heap, NoMemory};
+use heap_memory::{Heap, NoMemory};
 use std::collections::BTreeSet;
 
 /// Adds the offset of the unit of a set, if the set can be read.

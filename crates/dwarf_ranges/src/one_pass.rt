@@ -10,7 +10,7 @@ ghost use Rattle.dwarf_ranges.specs.Inner.{first_tuple};
 use crate::arange::Arange;
 use crate::aranges::Aranges;
 use dwarf_asked_addresses::{assign_within, pending_addresses};
-use memory::{Heap, NoMemory};
+use heap_memory::{Heap, NoMemory};
 use std::collections::{BTreeMap, BTreeSet};
 
 /// The first tuple that contains each pending address.

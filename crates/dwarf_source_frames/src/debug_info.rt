@@ -12,8 +12,8 @@ use crate::debug_sections::DebugSections;
 use crate::debug_unit::{DebugUnit, UnitEntry};
 use dwarf_encoding::{Units, Value};
 use dwarf_entries::{Abbreviations, entry_within};
+use heap_memory::{Heap, NoMemory};
 use macho_image::Image;
-use memory::{Heap, NoMemory};
 
 /// The DWARF of an image: its sections, with the tables of the units of `__debug_info` and of the declarations of
 /// `__debug_abbrev`.

@@ -19,7 +19,7 @@ use crate::debug_unit::DebugUnit;
 use dwarf_asked_addresses::answers_for;
 use dwarf_encoding::split_unit;
 use dwarf_ranges::{Arange, Aranges, Ranges, assign_ranges, first_tuples, named_units};
-use memory::{Heap, NoMemory};
+use heap_memory::{Heap, NoMemory};
 use std::collections::{BTreeMap, BTreeSet};
 
 /// Adds an address to `places` with the offset of its unit, or to `pending` if it has none.

@@ -17,7 +17,7 @@ use crate::debug_unit::DebugUnit;
 use dwarf_encoding::{TextSections, Units, Value};
 use dwarf_entries::Attribute;
 use dwarf_lines::{Names, Program};
-use memory::{Heap, NoMemory};
+use heap_memory::{Heap, NoMemory};
 
 /// The texts of a unit, and its program with the names of its files.
 #[derive(Drop)]

@@ -7,7 +7,7 @@ ghost use Rattle.std.specs.Ordering.{nat_cmp};
 ghost use Rattle.std.specs.BTreeMap as tree_map;
 ghost use Rattle.dwarf_source_frames.specs.ByUnit.{IsPlaced, addresses_under, placed_under, placed_without};
 
-use memory::{Heap, NoMemory};
+use heap_memory::{Heap, NoMemory};
 use std::collections::BTreeMap;
 
 /// The addresses of a unit.

@@ -13,8 +13,8 @@ ghost use Rattle.index_format.specs.Text.{end_of};
 
 use archive_records::{Sizes, end_bytes};
 use byte_device::{Sink, WriteFault, put};
+use heap_memory::Heap;
 use index_format::IndexEntry;
-use memory::Heap;
 use sha2::{Digest, Sha256};
 
 /// The entries in ascending byte order.

@@ -8,7 +8,7 @@ use crate::indexing::index_input;
 use crate::publishing::publish_index;
 use byte_device::{Output, Sink, Source, Target};
 use command_common::{CommandFault, Status};
-use memory::Heap;
+use heap_memory::Heap;
 
 /// Writes the index of ARCHIVE, with the tables of its slices, to OUT while ARCHIVE is read, and to the report the
 /// numbers of its entries and bytes.

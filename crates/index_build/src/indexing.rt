@@ -9,8 +9,8 @@ use crate::making::index_into;
 use archive_records::Sizes;
 use byte_device::{Sink, Source};
 use command_common::{CommandFault, InputName, Why, refusal};
+use heap_memory::Heap;
 use index_format::IndexingFault;
-use memory::Heap;
 use table_source_frames::laws::one_slice_table;
 
 /// The command's fault for an archive that is refused with this fault.

@@ -12,8 +12,8 @@ use crate::fault::MakingFault;
 use crate::records::put_tables;
 use archive_records::Sizes;
 use byte_device::{Sink, Source, put};
+use heap_memory::Heap;
 use index_format::{IndexEntry, IndexingFault, begin_archive, magic};
-use memory::Heap;
 use table_source_frames::laws::one_slice_table;
 
 /// Reads an archive of version 2 to its end, and writes the magic of its index and the tables of its records. Returns
@@ -53,7 +53,7 @@ fn put_front<R: Source, W: Sink>(
 ///
 /// # Errors
 ///
-/// Those of `archive_read::read_archive`, in the same order and with the same offsets; for an archive of version 1
+/// Those of `archive_results::read_archive`, in the same order and with the same offsets; for an archive of version 1
 /// `OldArchive`, after only its magic was read; `TooLong` if the offset of a record of the archive, or of a table of
 /// the index, would be more than 2^64 - 1. `Write` if the writer failed before the archive was refused.
 pub fn index_into<R: Source, W: Sink>(

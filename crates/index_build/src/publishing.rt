@@ -6,7 +6,7 @@ ghost use Rattle.index_build.specs.Index.{index_line};
 use archive_records::Sizes;
 use byte_device::{Output, Sink, Target};
 use command_common::{CommandFault, Status, publish_output, write_report};
-use memory::{Heap, NoMemory};
+use heap_memory::{Heap, NoMemory};
 
 /// The line of `index`: the numbers of entries and bytes that were written.
 fn index_line(heap: Heap, sizes: Sizes) -> Result<String<Heap>, NoMemory>

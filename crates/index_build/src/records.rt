@@ -17,8 +17,8 @@ use crate::fault::{MakingFault, TableFault};
 use crate::tables::put_table;
 use archive_records::{NextRecord, RecordFault, RecordReader};
 use byte_device::{Sink, Source};
+use heap_memory::Heap;
 use index_format::{IndexEntry, IndexingFault};
-use memory::Heap;
 
 /// The fault of the archive, as one of making.
 fn refused(fault: RecordFault) -> MakingFault

@@ -12,7 +12,7 @@ ghost use Rattle.index_format.specs.Making.{TellsVersion};
 use crate::fault::IndexingFault;
 use archive_records::{Format, RecordFault, RecordFaultKind, RecordReader, TextKind};
 use byte_device::{Bytes, Failed, Source};
-use memory::Heap;
+use heap_memory::Heap;
 
 /// The length of a magic in bytes.
 const MAGIC_LEN: usize = archive_records::MAGIC_LEN as usize;

@@ -14,7 +14,7 @@ use crate::{IndexEntry, IndexFault, IndexFaultKind};
 use archive_records::{
     ADMISSION, ADMISSION_HEAD_LEN, LARGEST_SLICE, RETIREMENT, RETIREMENT_LEN, number_at,
 };
-use memory::Heap;
+use heap_memory::Heap;
 use table_checked_pages::{Claim, digests_len};
 
 /// Whether the tag is possible for an entry.

@@ -13,7 +13,7 @@ use crate::entry::ENTRY_LEN;
 use crate::{IndexFault, IndexFaultKind};
 use archive_records::number_at;
 use byte_device::{Failed, Placed, ReadFault, read_at};
-use memory::Heap;
+use heap_memory::Heap;
 
 /// The length of the magic in bytes.
 pub(crate) const MAGIC_LEN: u64 = archive_records::MAGIC_LEN as u64;

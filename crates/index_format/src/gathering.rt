@@ -19,7 +19,7 @@ use crate::{Index, IndexEntry, PlaceFault};
 use archive_core::Operation;
 use archive_records::{ADMISSION, RETIREMENT};
 use byte_device::Placed;
-use memory::Heap;
+use heap_memory::Heap;
 
 /// Appends the operation of the entry with this number to those that were gathered.
 fn gather_entry<P: Placed>(

@@ -9,7 +9,7 @@ ghost use Rattle.index_format.specs.Text.{placed_of};
 
 use crate::IndexEntry;
 use archive_records::{END_LEN, MAGIC_LEN};
-use memory::Heap;
+use heap_memory::Heap;
 use std::marker::Model;
 
 /// The entries of an index, in ascending byte order. A contract sees it as the list of their bytes.

@@ -14,7 +14,7 @@ ghost use Rattle.index_format.specs.Text.{placed_of};
 use crate::{Index, IndexEntry, PlaceFault};
 use archive_core::{Archive, Operation};
 use byte_device::Placed;
-use memory::{Heap, NoMemory};
+use heap_memory::{Heap, NoMemory};
 
 /// Whether the key of an entry begins with this prefix.
 pub fn is_under(prefix: &[u8], entry: &IndexEntry) -> bool

@@ -10,7 +10,7 @@ use crate::IndexEntry;
 use crate::checking::stored_size;
 use crate::ends::MAGIC_LEN;
 use archive_core::FindState;
-use memory::{Heap, NoMemory};
+use heap_memory::{Heap, NoMemory};
 
 /// Whether an entry is that of an admission.
 #[tactic(auto, unfolding(crate::specs::Entry::entry_bytes, crate::specs::Entry::placed_bytes))]

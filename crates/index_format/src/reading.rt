@@ -14,7 +14,7 @@ use crate::entry::ENTRY_LEN;
 use crate::places::are_laid;
 use crate::{Index, IndexEntry, IndexFault, IndexFaultKind};
 use byte_device::Placed;
-use memory::{Heap, NoMemory};
+use heap_memory::{Heap, NoMemory};
 use sha2::{Digest, Sha256};
 
 /// Whether bytes have this SHA-256.

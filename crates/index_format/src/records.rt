@@ -16,7 +16,7 @@ use crate::{IndexEntry, PlaceFault};
 use archive_core::{FindState, Operation, Record, Slice, retirement};
 use archive_records::{ADMISSION, ADMISSION_HEAD_LEN, has_key, number_at};
 use byte_device::{Placed, ReadFault, read_at};
-use memory::{Heap, NoMemory};
+use heap_memory::{Heap, NoMemory};
 
 /// Whether the bytes begin with the tag of an admission and a key, and the length after them is that of the rest.
 fn has_head(bytes: &[u8]) -> bool

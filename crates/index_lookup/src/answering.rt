@@ -8,8 +8,8 @@ use crate::live::answering_entries_under;
 use crate::numbered::Numbered;
 use crate::order::{are_tied, keep_first_index, sort_by_rank};
 use archive_core::{SliceKey, key_prefix};
+use heap_memory::{Heap, NoMemory};
 use index_format::Index;
-use memory::{Heap, NoMemory};
 use std::marker::Model;
 
 /// Entries of several indexes that answer together, in the order of their records. A contract sees each with the number

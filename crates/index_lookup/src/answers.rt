@@ -7,7 +7,7 @@ ghost use Rattle.index_lookup.specs.Views.{answer_of, frames_at, borrowed_in, ro
 
 use archive_core::{Answer, Digest, Own};
 use dwarf_source_frames::SourceFrame;
-use memory::{Heap, NoMemory};
+use heap_memory::{Heap, NoMemory};
 use table_source_frames::OwnedFrame;
 use table_symbols::OwnedFound;
 

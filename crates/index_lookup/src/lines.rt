@@ -15,7 +15,7 @@ ghost use Rattle.index_lookup.specs.Views.{list_in};
 
 use archive_core::Where;
 use byte_device::Placed;
-use memory::Heap;
+use heap_memory::Heap;
 use table_checked_pages::{CheckFault, Pages};
 use table_source_frames::{LineTable, OwnedFrame};
 use table_symbols::Table;

@@ -13,8 +13,8 @@ ghost use Rattle.index_lookup.specs.InnerAnswering.{all_at, entries_at, entry_at
 use crate::numbered::{Numbered, is_companion};
 use crate::retired::{is_retired, retired_under};
 use archive_records::ADMISSION;
+use heap_memory::{Heap, NoMemory};
 use index_format::{Index, run_under};
-use memory::{Heap, NoMemory};
 
 /// Adds the entries of the index with this number that are live with this prefix, in their order. Only its admissions
 /// with this prefix are read.

@@ -12,8 +12,8 @@ use crate::live::live_under;
 use crate::numbered::{Numbered, is_companion};
 use archive_core::{Digest, FindRow, FindState, SliceKey, key_prefix};
 use archive_records::{ADMISSION_HEAD_LEN, digest_in, key_in};
+use heap_memory::{Heap, NoMemory};
 use index_format::Index;
-use memory::{Heap, NoMemory};
 
 /// A slice that an entry of one of several indexes names.
 #[derive(Clone, Copy)]

@@ -12,8 +12,8 @@ ghost use Rattle.index_format.specs.Entry.{entry_bytes};
 ghost use Rattle.index_lookup.specs.InnerAnswering.{HaveOrder, HaveTie, entry_at, has_same_length_elsewhere, rank_in};
 
 use crate::numbered::{Numbered, SLICE_LEN};
+use heap_memory::Heap;
 use index_format::IndexEntry;
-use memory::Heap;
 use std::cmp::Ordering;
 
 /// Whether the first 57 bytes of two entries are equal: they are for one slice.

@@ -12,7 +12,7 @@ ghost use Rattle.index_lookup.specs.Views.{told_view};
 
 use archive_core::Where;
 use byte_device::Placed;
-use memory::Heap;
+use heap_memory::Heap;
 use table_checked_pages::CheckFault;
 use table_symbols::{OwnedFound, Table};
 

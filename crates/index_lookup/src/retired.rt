@@ -10,8 +10,8 @@ ghost use Rattle.index_lookup.specs.InnerAnswering.{is_retired, retired_of};
 
 use crate::numbered::subject_of;
 use archive_records::RETIREMENT;
+use heap_memory::{Heap, NoMemory};
 use index_format::{Index, IndexEntry, run_under};
-use memory::{Heap, NoMemory};
 use std::cmp::Ordering;
 
 /// Compares two keys with their digests.

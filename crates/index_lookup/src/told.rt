@@ -24,7 +24,7 @@ use crate::own::own_of;
 use archive_core::Where;
 use archive_records::digest_in;
 use byte_device::Placed;
-use memory::Heap;
+use heap_memory::Heap;
 use table_checked_pages::{CheckFault, Claim};
 use table_symbols::{OwnedFound, Table};
 

@@ -2,7 +2,7 @@
 ghost use Rattle.std.specs.Prelude.{◌≡◌, ◌↔◌, OnErr, OnOk, IsTrue};
 ghost use Rattle.join_core.specs.Bound.{IsLeastAbove, IsTowards};
 
-use memory::NoMemory;
+use heap_memory::NoMemory;
 
 /// A type whose contents join, as the replicas of a state-based object do (INRIA RR-7506, 2011).
 ///

@@ -10,7 +10,7 @@ use Rattle.command_common.specs.declared.faults.Why.{Why}
 use Rattle.command_common.specs.Archives.{further_name}
 use Rattle.command_common.specs.Inputs.{Reader, IsArchive, IsArchiveRefused, IsDeviceFault, IsFirstRefused, IsGiven}
 use Rattle.command_common.specs.Inputs.{IsGivenArchive, IsRefusedInTurn, IsTextRefused}
-use Rattle.command_write.specs.Merge.{merge}
+use Rattle.command_archives.specs.Merge.{merge}
 use Rattle.laws_archive.proofs.Given.{gives}
 use Rattle.laws_archive.proofs.Refusals.{text_accepted}
 

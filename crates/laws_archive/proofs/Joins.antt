@@ -20,7 +20,7 @@ use Rattle.command_common.specs.Records.{TellsFound}
 use Rattle.command_queries.specs.Find.{find}
 use Rattle.command_queries.specs.List.{list}
 use Rattle.command_queries.specs.Name.{TellsNamed}
-use Rattle.command_write.specs.Merge.{MakesMerged, merge}
+use Rattle.command_archives.specs.Merge.{MakesMerged, merge}
 use Rattle.laws_archive.specs.Joins.{IsGivenJoin, IsMergedFile, TellOne}
 use Rattle.laws_archive.proofs.Accepted.{merge_refused}
 use Rattle.laws_archive.proofs.Given.{contents_given, holds, one_given}

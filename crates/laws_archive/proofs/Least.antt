@@ -9,7 +9,7 @@ use Rattle.archive_core.specs.Order.{below_antisymmetric, below_left, below_refl
 use Rattle.archive_core.proofs.Made.{joined_made_right, union_assoc}
 use Rattle.archive_exchange.proofs.Content.{joined_made, union_nothing}
 use Rattle.command_common.specs.Archives.{merged}
-use Rattle.command_write.specs.Merge.{operations_of}
+use Rattle.command_archives.specs.Merge.{operations_of}
 use Rattle.laws_archive.proofs.Joins.{merged_is}
 
 pub above_input : (o : Operations) (contents : List Operations) → IsBelow o (merged o contents)

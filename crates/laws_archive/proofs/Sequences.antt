@@ -21,20 +21,20 @@ use Rattle.archive_index.proofs.Held.{are_records}
 use Rattle.archive_records.specs.Entry.{AreEntries}
 use Rattle.archive_records.specs.Text.{AreOperations, IsOperationsText, summary_text, written}
 use Rattle.archive_records.proofs.Versions.{made_content}
-use Rattle.archive_admission.specs.File.{IsAcceptedFile, admissible}
-use Rattle.archive_admission.specs.Take.{admitted}
+use Rattle.archive_file_admission.specs.File.{IsAcceptedFile, admissible}
+use Rattle.archive_file_admission.specs.Take.{admitted}
 use Rattle.archive_exchange.proofs.Content.{joined_made, taken_gain, union_nothing}
 use Rattle.byte_lazy_inputs.specs.declared.openings.Opening.{Opening}
 use Rattle.command_common.specs.Archives.{merged}
 use Rattle.command_common.specs.Inputs.{HoldsArchive, IsGiven, IsGivenArchive, Reader}
-use Rattle.command_write.specs.Admit.{admit, images_of}
-use Rattle.command_write.specs.Apply.{apply}
-use Rattle.command_write.specs.Delta.{delta}
-use Rattle.command_write.specs.Merge.{merge}
-use Rattle.command_write.specs.Migrate.{migrate}
-use Rattle.command_write.specs.PassedOver.{Becomes, EachCounted, Outcome, admit_passing, images_from}
-use Rattle.command_write.specs.Retire.{retire}
-use Rattle.command_write.proofs.Passing.{HaveNone, one_image_lists}
+use Rattle.command_archives.specs.Admit.{admit, images_of}
+use Rattle.command_archives.specs.Apply.{apply}
+use Rattle.command_archives.specs.Delta.{delta}
+use Rattle.command_archives.specs.Merge.{merge}
+use Rattle.command_archives.specs.Migrate.{migrate}
+use Rattle.command_archives.specs.PassedOver.{Becomes, EachCounted, Outcome, admit_passing, images_from}
+use Rattle.command_archives.specs.Retire.{retire}
+use Rattle.command_archives.proofs.Passing.{HaveNone, one_image_lists}
 use Rattle.laws_archive.specs.Joins.{IsGivenJoin}
 use Rattle.laws_archive.specs.Sequences.{AreInputsOf, IsInputOf, IsOutOf, Writes, as_set}
 use Rattle.laws_archive.specs.Sequences.{ByAdmit, ByAdmitPassing, ByApply, ByDelta, ByMerge, ByMigrate, ByNew, ByRetire}

@@ -21,7 +21,7 @@ use Rattle.archive_records.proofs.Formats.{old_in_order, format_magic, kind_arch
 use Rattle.archive_records.proofs.Versions.{old_written_text, formed}
 use Rattle.archive_records.proofs.Exact.{no_magic_fault, fault_longest}
 use Rattle.laws_archive.proofs.Complete.{same_or_not, content_or_fault}
-use Rattle.command_write.proofs.Beginnings.{good_formed}
+use Rattle.command_archives.proofs.Beginnings.{good_formed}
 use Rattle.archive_merge.proofs.Fronts.{archive_text, formed_of, text_magic, front_magic, whole_front}
 
 -- ---- good records

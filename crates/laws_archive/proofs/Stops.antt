@@ -18,10 +18,10 @@ use Rattle.command_common.specs.Ends.{Command, HasFirst, IsStopped, StopsAmidst,
 use Rattle.command_common.specs.Ends.{writes_in_turn}
 use Rattle.command_common.specs.Inputs.{EachKnown, HoldsArchive, IsGiven, IsGivenArchive, IsKnown, Reader}
 use Rattle.command_common.specs.Outputs.{Out, Outs, Writer, draft_of, out_of}
-use Rattle.command_write.specs.Begun.{BeginsGood, TakesNoText, begins_after}
-use Rattle.command_write.proofs.Beginnings.{first_of_good, good_content}
-use Rattle.command_write.specs.Merge.{merge}
-use Rattle.command_write.specs.MergeStreams.{merge_of_one}
+use Rattle.command_archives.specs.Begun.{BeginsGood, TakesNoText, begins_after}
+use Rattle.command_archives.proofs.Beginnings.{first_of_good, good_content}
+use Rattle.command_archives.specs.Merge.{merge}
+use Rattle.command_archives.specs.MergeStreams.{merge_of_one}
 use Rattle.laws_archive.specs.Stops.{BeginsWith, LeavesBeginning}
 use Rattle.laws_archive.proofs.Given.{is_given, one_given}
 

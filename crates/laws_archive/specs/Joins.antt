@@ -7,7 +7,7 @@ use Rattle.command_common.specs.declared.faults.Status.{Status}
 use Rattle.command_common.specs.declared.faults.Why.{Why}
 use Rattle.command_common.specs.Archives.{merged}
 use Rattle.command_common.specs.Inputs.{Reader, IsDeviceFault, IsGiven, IsGivenArchive}
-use Rattle.command_write.specs.Merge.{merge}
+use Rattle.command_archives.specs.Merge.{merge}
 
 -- The archives were opened, their bytes are the texts of contents, and `join` is the join of these.
 pub record IsGivenJoin {R S : Type 0} (archive : Reader R) (others : List (Reader S)) (join : Operations)

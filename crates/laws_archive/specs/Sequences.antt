@@ -17,13 +17,13 @@ use Rattle.byte_lazy_inputs.specs.declared.openings.Opening.{Opening}
 use Rattle.command_common.specs.Ends.{Command}
 use Rattle.command_common.specs.Inputs.{IsGiven, Reader}
 use Rattle.command_common.specs.Outputs.{Out}
-use Rattle.command_write.specs.Admit.{admit, images_of}
-use Rattle.command_write.specs.Apply.{apply}
-use Rattle.command_write.specs.Delta.{delta}
-use Rattle.command_write.specs.Merge.{merge}
-use Rattle.command_write.specs.Migrate.{migrate}
-use Rattle.command_write.specs.PassedOver.{Becomes, EachCounted, Outcome, admit_passing, images_from}
-use Rattle.command_write.specs.Retire.{retire}
+use Rattle.command_archives.specs.Admit.{admit, images_of}
+use Rattle.command_archives.specs.Apply.{apply}
+use Rattle.command_archives.specs.Delta.{delta}
+use Rattle.command_archives.specs.Merge.{merge}
+use Rattle.command_archives.specs.Migrate.{migrate}
+use Rattle.command_archives.specs.PassedOver.{Becomes, EachCounted, Outcome, admit_passing, images_from}
+use Rattle.command_archives.specs.Retire.{retire}
 
 -- the set of the records of these operations
 abbrev pub as_set : List Operation → Operations

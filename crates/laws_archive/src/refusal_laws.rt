@@ -10,18 +10,18 @@ ghost use Rattle.command_queries.specs.List.{list};
 ghost use Rattle.command_queries.specs.Name.{name};
 ghost use Rattle.command_queries.specs.Symbolicate.{symbolicate};
 ghost use Rattle.archive_exchange.specs.Rehearse.{rehearse};
-ghost use Rattle.command_write.specs.Admit.{admit};
-ghost use Rattle.command_write.specs.Apply.{apply};
-ghost use Rattle.command_write.specs.Delta.{delta};
-ghost use Rattle.command_write.specs.Merge.{merge};
-ghost use Rattle.command_write.specs.Migrate.{migrate};
-ghost use Rattle.command_write.specs.Retire.{retire};
-ghost use Rattle.command_write.specs.Summary.{summary};
+ghost use Rattle.command_archives.specs.Admit.{admit};
+ghost use Rattle.command_archives.specs.Apply.{apply};
+ghost use Rattle.command_archives.specs.Delta.{delta};
+ghost use Rattle.command_archives.specs.Merge.{merge};
+ghost use Rattle.command_archives.specs.Migrate.{migrate};
+ghost use Rattle.command_archives.specs.Retire.{retire};
+ghost use Rattle.command_archives.specs.Summary.{summary};
 ghost use Rattle.laws_archive.specs.Refusals.{ArchivesHoldAlike, EachHoldAlike, EndAlike, HoldAlike, RefuseOne};
 
 use crate::content_laws::{one_answer, one_find, one_find_name, one_list};
-use archive_admission::laws::one_take_fault;
 use archive_exchange::laws::one_meaning;
+use archive_file_admission::laws::one_take_fault;
 use byte_device::Source;
 use dwarf_source_frames::laws::one_list_of_frames;
 

@@ -5,10 +5,10 @@ ghost use Rattle.std.specs.List.{AllByRecursion, flat_map};
 ghost use Rattle.archive_core.specs.Content.{IsContent, Operations, joined, content_of};
 ghost use Rattle.archive_core.specs.Part.{AreAlikeUnder, is_under, part};
 ghost use Rattle.archive_core.specs.declared.keys.SliceKey.{SliceKey};
-ghost use Rattle.text_inputs.specs.Events.{Act};
-ghost use Rattle.text_inputs.specs.Script.{script_of};
-ghost use Rattle.text_inputs.specs.Frames.{frames_of};
-ghost use Rattle.text_inputs.specs.declared.frame.Frame.{Frame};
+ghost use Rattle.text_scripts_and_frames.specs.Events.{Act};
+ghost use Rattle.text_scripts_and_frames.specs.Script.{script_of};
+ghost use Rattle.text_scripts_and_frames.specs.Frames.{frames_of};
+ghost use Rattle.text_scripts_and_frames.specs.declared.frame.Frame.{Frame};
 ghost use Rattle.text_reports.specs.Answers.{answer_lines};
 ghost use Rattle.command_common.specs.declared.faults.InputName.{InputName};
 ghost use Rattle.command_common.specs.declared.faults.Status.{Status};
@@ -29,9 +29,9 @@ ghost use Rattle.archive_exchange.specs.World.{state};
 ghost use Rattle.archive_exchange.specs.ModelEvent.{ModelEvent};
 
 use crate::content_laws::{one_answer, one_find, one_find_name, one_list};
-use archive_admission::TakeFault;
 use archive_exchange::laws::one_meaning;
 use archive_exchange::model_laws::same_operations_same_content;
+use archive_file_admission::TakeFault;
 use byte_device::Source;
 use dwarf_source_frames::laws::one_list_of_frames;
 

@@ -22,22 +22,22 @@ ghost use Rattle.command_queries.specs.Frames.{frames};
 ghost use Rattle.command_queries.specs.List.{list};
 ghost use Rattle.command_queries.specs.Name.{MakesNamed};
 ghost use Rattle.command_queries.specs.Symbolicate.{MakesAnswered};
-ghost use Rattle.command_write.specs.Admit.{admit};
-ghost use Rattle.command_write.specs.Apply.{apply, apply_as_it_comes};
-ghost use Rattle.command_write.specs.Delta.{delta, delta_as_it_comes};
-ghost use Rattle.command_write.specs.Merge.{merge};
-ghost use Rattle.command_write.specs.MergeStreams.{merge_as_it_comes};
-ghost use Rattle.command_write.specs.Migrate.{migrate, migrate_as_it_comes};
-ghost use Rattle.command_write.specs.PassedOver.{EndsAdmit, admit_passing};
-ghost use Rattle.command_write.specs.Retire.{retire, retire_as_it_comes};
+ghost use Rattle.command_archives.specs.Admit.{admit};
+ghost use Rattle.command_archives.specs.Apply.{apply, apply_as_it_comes};
+ghost use Rattle.command_archives.specs.Delta.{delta, delta_as_it_comes};
+ghost use Rattle.command_archives.specs.Merge.{merge};
+ghost use Rattle.command_archives.specs.MergeStreams.{merge_as_it_comes};
+ghost use Rattle.command_archives.specs.Migrate.{migrate, migrate_as_it_comes};
+ghost use Rattle.command_archives.specs.PassedOver.{EndsAdmit, admit_passing};
+ghost use Rattle.command_archives.specs.Retire.{retire, retire_as_it_comes};
 ghost use Rattle.laws_archive.specs.Joins.{IsGivenJoin, TellOne};
 ghost use Rattle.laws_archive.specs.Sequences.{AreInputsOf, HasAtOut, IsInputOf, IsOutOf, Writes};
 
 use crate::content_laws::contents_join;
 use crate::report_laws::one_report;
 use crate::text_laws::{one_list_of_operations, one_summary};
-use archive_admission::laws::one_take_fault;
 use archive_exchange::model_laws::reached_is_held;
+use archive_file_admission::laws::one_take_fault;
 use byte_device::{Sink, Source, Target};
 
 /// For any commands, in any order and with any repeats and merges, OUT is the one text of the content of its

@@ -4,8 +4,8 @@ ghost use Rattle.std.specs.Prelude.{◌≡◌, ◌<◌, ◌^◌, drop, length, s
 ghost use Rattle.macho_symbols.specs.Suffixes.{name_at};
 ghost use Rattle.macho_symbols.specs.InnerRanks.{IsHead};
 
+use heap_memory::Heap;
 use macho_image::before_nul;
-use memory::Heap;
 
 /// The bytes from an offset on; none past the end.
 pub(crate) fn from_place(strings: &[u8], place: usize) -> &[u8]

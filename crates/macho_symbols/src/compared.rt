@@ -8,7 +8,7 @@ ghost use Rattle.macho_symbols.specs.Symbols.{name_of};
 use crate::candidate::Candidate;
 use crate::name::Name;
 use crate::name_order::NameOrder;
-use memory::{Heap, NoMemory};
+use heap_memory::{Heap, NoMemory};
 use std::cmp::Ordering;
 use std::marker::Model;
 

@@ -4,8 +4,8 @@ ghost use Rattle.std.specs.Prelude.{◌≡◌, ◌≤◌, ℕ, IfOk, length};
 ghost use Rattle.macho_symbols.specs.Symbols.{name_of};
 ghost use Rattle.macho_symbols.specs.NulPlaces.{nul_from, AreNulPlaces};
 
+use heap_memory::{Heap, NoMemory};
 use macho_image::before_nul;
-use memory::{Heap, NoMemory};
 
 /// The size of a block of the string table in bytes.
 const BLOCK_SIZE: usize = 4096;

@@ -15,8 +15,8 @@ use crate::name::Name;
 use crate::nlist::{N_EXT, N_SECT, N_STAB, N_TYPE, n_sect, n_strx, n_type, n_value};
 use crate::section_numbers::{N_SECT_COUNT, is_inside, sections_by_number};
 use crate::symbols::Symbols;
+use heap_memory::{Heap, NoMemory};
 use macho_image::Section;
-use memory::{Heap, NoMemory};
 use std::marker::Model;
 
 /// The symbols of an image with its sections by number, which are collected once at the beginning of a scan. A contract

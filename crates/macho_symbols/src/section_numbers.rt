@@ -6,8 +6,8 @@ ghost use Rattle.macho_image.specs.SectionViews.{section_view};
 ghost use Rattle.macho_symbols.specs.SectionNumbers.{AreByNumber, AreSectionsOf};
 
 use crate::nlist::MAX_SECT;
+use heap_memory::{Heap, NoMemory};
 use macho_image::{Image, Section};
-use memory::{Heap, NoMemory};
 
 /// The number of values of `n_sect`, with NO_SECT.
 pub(crate) const N_SECT_COUNT: usize = MAX_SECT as usize + 1;

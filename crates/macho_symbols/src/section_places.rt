@@ -6,8 +6,8 @@ ghost use Rattle.macho_image.specs.Sections.{section_of};
 ghost use Rattle.macho_symbols.specs.SectionPlaces.{ArePlaces};
 
 use crate::nlist::{MAX_SECT, NO_SECT};
+use heap_memory::{Heap, NoMemory};
 use macho_image::{Image, Section};
-use memory::{Heap, NoMemory};
 
 /// The names of the segment and of the section with a number; empty if there is no such section.
 pub(crate) fn section_names<'b>(places: &[u32], number: u8, image: &'b [u8]) -> (&'b [u8], &'b [u8])

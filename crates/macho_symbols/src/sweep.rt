@@ -17,8 +17,8 @@ use crate::scan::Scan;
 use crate::section_numbers::{collect_sections, is_inside};
 use crate::symbols::Symbols;
 use crate::turns::collect_turns;
+use heap_memory::{Heap, NoMemory};
 use macho_image::Section;
-use memory::{Heap, NoMemory};
 
 impl Row {
     /// The row of a turn, with the nearest candidate there.

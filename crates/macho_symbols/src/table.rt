@@ -14,8 +14,8 @@ use crate::row::{Row, row_for};
 use crate::section_places::{collect_places, section_names};
 use crate::sweep::steps;
 use crate::symbols::Symbols;
+use heap_memory::{Heap, NoMemory};
 use macho_image::Symtab;
-use memory::{Heap, NoMemory};
 use std::marker::Model;
 
 /// The nearest symbol of each address of an image, step by step, so that one binary search finds that of an address. It

@@ -6,8 +6,8 @@ ghost use Rattle.macho_symbols.specs.InnerCandidates.{AreCandidates, AreTurns, e
 ghost use Rattle.macho_symbols.specs.SectionNumbers.{AreSectionsOf};
 
 use crate::candidate::Candidate;
+use heap_memory::{Heap, NoMemory};
 use macho_image::Section;
-use memory::{Heap, NoMemory};
 
 /// Adds the values of candidates.
 fn push_values(turns: &mut Vec<u64, Heap>, candidates: &[Candidate]) -> Result<(), NoMemory>

@@ -6,8 +6,8 @@
 
 use byte_device::Writing;
 use cli_files::SystemFiles;
-use cli_messages::print_report_fault;
 use cli_run::run;
+use cli_standard_error::print_report_fault;
 use std::fs::File;
 use std::process::{self, ExitCode};
 use std::{env, io};

@@ -6,7 +6,7 @@ ghost use Rattle.table_checked_pages.specs.Reading.{ReadsStored};
 
 use crate::CheckFault;
 use byte_device::{Placed, ReadFault, read_at};
-use memory::Heap;
+use heap_memory::Heap;
 use sha2::{Digest, Sha256};
 
 /// Reads `count` bytes from an offset on, and compares their SHA-256 with a digest. The error is `Changed` if it

@@ -4,7 +4,7 @@ ghost use Rattle.std.specs.Prelude.{◌≡◌, ◌<◌, ℕ, List, [], OnOk, len
 ghost use Rattle.table_checked_pages.specs.Pages.{AreKept, page_of};
 ghost use Rattle.table_checked_pages.specs.Views.{level_view};
 
-use memory::{Heap, NoMemory};
+use heap_memory::{Heap, NoMemory};
 
 /// The pages of a level that were read, by their numbers; a page without bytes was not read.
 #[derive(Drop)]

@@ -7,7 +7,7 @@ ghost use Rattle.table_checked_pages.specs.declared.fault.CheckFault.TheVariants
 
 use crate::sizes::digests_len;
 use crate::{CheckFault, Claim, Pages};
-use memory::Heap;
+use heap_memory::Heap;
 
 impl Pages {
     /// The bytes of a claim. No byte is read before the first call of [`Pages::read`].

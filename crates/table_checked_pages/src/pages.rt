@@ -5,7 +5,7 @@ ghost use Rattle.table_checked_pages.specs.Pages.{digests_size};
 
 use crate::Claim;
 use crate::level::Level;
-use memory::Heap;
+use heap_memory::Heap;
 
 /// Bytes that are stored in a device, read page by page. Each page is compared with its digest once, before one of its
 /// bytes is returned, and is kept from then on. Each call passes the device, so one device can serve several of these.

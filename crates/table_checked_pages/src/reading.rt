@@ -13,7 +13,7 @@ use crate::level::Level;
 use crate::sizes::{DIGEST_LEN, FAN_OUT, PAGE_LEN, digests_len, level_size};
 use crate::{CheckFault, Pages};
 use byte_device::Placed;
-use memory::{Heap, NoMemory};
+use heap_memory::{Heap, NoMemory};
 
 impl Pages {
     /// The number of bytes.

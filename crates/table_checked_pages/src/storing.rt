@@ -5,7 +5,7 @@ ghost use Rattle.sha2.specs.Sha256.{sha256};
 ghost use Rattle.table_checked_pages.specs.Pages.{page_digests, page_of, root_of, stored};
 
 use crate::sizes::{PAGE_LEN, pages_in};
-use memory::{Heap, NoMemory};
+use heap_memory::{Heap, NoMemory};
 use sha2::{Digest, Sha256};
 
 /// Bytes with their digests, and their root.

@@ -18,7 +18,7 @@ use crate::laws::frames_by_step;
 use crate::row::{LOCATION_LEN, Location, index_of};
 use crate::table::LineTable;
 use byte_device::Placed;
-use memory::Heap;
+use heap_memory::Heap;
 use table_checked_pages::{CheckFault, Pages, u32_be_at};
 
 /// The largest number of frames of an address.

@@ -14,7 +14,7 @@ use crate::frame::OwnedPath;
 use crate::row::{FILE_LEN, File, index_of};
 use crate::table::LineTable;
 use byte_device::Placed;
-use memory::Heap;
+use heap_memory::Heap;
 use table_checked_pages::{CheckFault, Pages, u32_be_at};
 
 impl LineTable {

@@ -8,7 +8,7 @@ ghost use Rattle.table_source_frames.specs.FrameViews.{owned_frame_view, owned_p
 
 use dwarf_lines::PathParts;
 use dwarf_source_frames::SourceFrame;
-use memory::Heap;
+use heap_memory::Heap;
 
 /// The parts of a path, which it owns.
 #[derive(Drop)]

@@ -15,7 +15,7 @@ ghost use Rattle.table_source_frames.specs.Steps.{StepRecord};
 use crate::row::{TEXT_LEN, Text, index_of};
 use crate::table::LineTable;
 use byte_device::Placed;
-use memory::Heap;
+use heap_memory::Heap;
 use table_checked_pages::{CheckFault, Pages, u32_be_at};
 
 /// `count` zeros. The error is `OutOfMemory`.

@@ -4,7 +4,7 @@ ghost use Rattle.std.specs.Prelude.{◌≡◌, IfOk};
 ghost use Rattle.table_source_frames_build.specs.StepViews.{changed_after};
 
 use crate::step::Step;
-use memory::{Heap, NoMemory};
+use heap_memory::{Heap, NoMemory};
 
 /// The steps whose location differs from that of the step before; before the first step there is no location.
 pub(crate) fn changed_steps(heap: Heap, steps: &[Step]) -> Result<Vec<Step, Heap>, NoMemory>

@@ -18,7 +18,7 @@ use crate::rows::push_u64;
 use crate::runs::{count_runs, push_runs};
 use crate::step::Step;
 use crate::store::LineStore;
-use memory::{Heap, NoMemory};
+use heap_memory::{Heap, NoMemory};
 use table_source_frames::HEAD_LEN;
 
 /// The head of a table without lines.

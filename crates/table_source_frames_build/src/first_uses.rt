@@ -5,7 +5,7 @@ ghost use Rattle.table_source_frames.specs.Numbering.{number_in, numbered_after,
 ghost use Rattle.table_source_frames_build.specs.Numbering.{IsNumber};
 ghost use Rattle.table_source_frames_build.specs.FirstUses.{AreGiven, some_number};
 
-use memory::{Heap, NoMemory};
+use heap_memory::{Heap, NoMemory};
 
 /// The numbers that are used, in the order of their first use, and the new number of each.
 #[derive(Drop)]

@@ -6,7 +6,7 @@ ghost use Rattle.table_source_frames_build.specs.Kept.{IsKept};
 use crate::keys::{FileKey, LocationKey, TextKey};
 use crate::numbers::Numbers;
 use dwarf_lines::PathParts;
-use memory::{Heap, NoMemory};
+use heap_memory::{Heap, NoMemory};
 
 /// The texts, files and locations of frames.
 #[derive(Drop)]

@@ -7,8 +7,8 @@ use crate::laws::table_by_turns;
 use crate::sink::StoreSink;
 use crate::store::LineStore;
 use dwarf_frame_changes::push_turns;
+use heap_memory::{Heap, NoMemory};
 use macho_image::Image;
-use memory::{Heap, NoMemory};
 use table_source_frames::HEAD_LEN;
 
 /// The largest size in bytes of the table of an image.

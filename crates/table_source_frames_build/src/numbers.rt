@@ -4,7 +4,7 @@ ghost use Rattle.std.specs.Prelude.{◌≡◌, ◌-◌, [], IfOk, OnErr, Some, l
 ghost use Rattle.table_source_frames_build.specs.Numbering.{IsNumber};
 ghost use Rattle.table_source_frames_build.specs.Numbers.{IsNumbered};
 
-use memory::{Heap, NoMemory};
+use heap_memory::{Heap, NoMemory};
 use std::collections::BTreeMap;
 use std::marker::Model;
 

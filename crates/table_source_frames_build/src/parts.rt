@@ -13,7 +13,7 @@ use crate::first_uses::FirstUses;
 use crate::kept::Kept;
 use crate::keys::FileKey;
 use crate::step::Step;
-use memory::{Heap, NoMemory};
+use heap_memory::{Heap, NoMemory};
 
 /// The numbers of locations, files and texts, in the order of their first use.
 #[derive(Drop)]

@@ -13,7 +13,7 @@ ghost use Rattle.table_source_frames_build.specs.StepViews.{HaveLocations};
 use crate::kept::Kept;
 use crate::parts::Parts;
 use crate::step::Step;
-use memory::{Heap, NoMemory};
+use heap_memory::{Heap, NoMemory};
 use table_source_frames::halves::lower_half;
 
 /// Adds a number as eight bytes.

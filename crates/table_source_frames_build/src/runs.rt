@@ -7,7 +7,7 @@ ghost use Rattle.table_source_frames_build.specs.StepViews.{step_starts};
 
 use crate::rows::push_u32;
 use crate::step::Step;
-use memory::{Heap, NoMemory};
+use heap_memory::{Heap, NoMemory};
 use table_source_frames::halves::upper_half;
 
 /// Whether the step at an index is the last of its run: it is the last step, or the next one has another upper half.

@@ -3,7 +3,7 @@
 use crate::store::LineStore;
 use dwarf_frame_changes::FrameSink;
 use dwarf_lines::PathParts;
-use memory::NoMemory;
+use heap_memory::NoMemory;
 
 /// A store that accepts turns.
 #[derive(Drop)]

@@ -6,7 +6,7 @@ use crate::kept::Kept;
 use crate::keys::LocationKey;
 use crate::step::Step;
 use dwarf_lines::PathParts;
-use memory::{Heap, NoMemory};
+use heap_memory::{Heap, NoMemory};
 use std::marker::Model;
 
 /// The frames of addresses. A contract sees the frames of each address, in the order of arrival, and the numbered

@@ -9,7 +9,7 @@ ghost use Rattle.table_source_frames_build.specs.PartNumbers.{AreNumbers};
 
 use crate::kept::Kept;
 use crate::rows::push_u32;
-use memory::{Heap, NoMemory};
+use heap_memory::{Heap, NoMemory};
 
 impl<'a> Kept<'a> {
     /// The size of these texts in bytes; `None` if it is larger than `most`.

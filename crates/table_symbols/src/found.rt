@@ -17,9 +17,9 @@ use crate::Table;
 use crate::nearest::NearestSymbol;
 use crate::opening::{HEAD_LEN, SECTION_LEN};
 use byte_device::Placed;
+use heap_memory::Heap;
 use macho_image::before_nul;
 use macho_symbols::Found;
-use memory::Heap;
 use table_checked_pages::CheckFault;
 
 /// A symbol that was found. It owns its names.

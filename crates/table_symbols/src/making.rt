@@ -9,9 +9,9 @@ ghost use Rattle.table_symbols.specs.Table.{IsTableWith};
 
 use crate::text::{push_head, push_rows, push_sections};
 use byte_device::{Sink, WriteFault, put};
+use heap_memory::{Heap, NoMemory};
 use macho_image::Image;
 use macho_symbols::{Symbols, collect_sections, steps, strings_of};
-use memory::{Heap, NoMemory};
 use sha2::{Digest, Sha256};
 use std::marker::Model;
 use table_checked_pages::{PAGE_LEN, Stored, pages_in, store};

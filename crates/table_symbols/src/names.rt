@@ -8,8 +8,8 @@ ghost use Rattle.table_checked_pages.specs.Reading.{ReadsStored};
 ghost use Rattle.table_checked_pages.specs.Standing.{Stands};
 
 use byte_device::Placed;
+use heap_memory::Heap;
 use macho_image::before_nul;
-use memory::Heap;
 use table_checked_pages::{CheckFault, Pages};
 
 /// The number of bytes that are read at once.

@@ -15,8 +15,8 @@ use crate::opening::{HEAD_LEN, SECTION_LEN};
 use crate::row::ROW_LEN;
 use crate::search::row_for;
 use byte_device::Placed;
+use heap_memory::Heap;
 use macho_symbols::Row;
-use memory::Heap;
 use table_checked_pages::CheckFault;
 
 /// The nearest symbol of an address.

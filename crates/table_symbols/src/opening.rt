@@ -11,7 +11,7 @@ use crate::head::Head;
 use crate::row::ROW_LEN;
 use crate::table::Table;
 use byte_device::Placed;
-use memory::Heap;
+use heap_memory::Heap;
 use table_checked_pages::{CheckFault, Claim, Pages, u64_be_at};
 
 /// The size of the head in bytes.

@@ -6,9 +6,9 @@ ghost use Rattle.macho_image.specs.SectionViews.{section_view};
 ghost use Rattle.table_symbols.specs.Rows.{IsRow, row_bytes, rows_bytes};
 ghost use Rattle.table_symbols.specs.Table.{base_flag, base_or_zero, names_of, padded, section_bytes};
 
+use heap_memory::{Heap, NoMemory};
 use macho_image::Section;
 use macho_symbols::Row;
-use memory::{Heap, NoMemory};
 
 /// The size of a name of a section in a table.
 const NAME_LEN: usize = 16;

@@ -116,7 +116,7 @@ use crate::tasks::Task;
 use crate::texts::{TextFault, cut_case};
 use crate::verdicts::Step;
 use cli_arguments::{Line, LineFault, Plan, parse_command_line};
-use memory::NoMemory;
+use heap_memory::NoMemory;
 use std::alloc::Global;
 use std::mem;
 use std::rt::Files;

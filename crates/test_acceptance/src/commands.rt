@@ -4,7 +4,7 @@ use archive_core::Archive;
 use byte_device::Output;
 use cli_arguments::{Line, Plan};
 use cli_run::execute_on;
-use memory::{Heap, NoMemory};
+use heap_memory::{Heap, NoMemory};
 use test_calls::{Desk, make_inputs};
 use test_parts::{End, Left, Shelf, StrictSink};
 

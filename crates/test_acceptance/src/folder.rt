@@ -2,7 +2,7 @@
 
 use cli_files::SystemFiles;
 use cli_run::run;
-use memory::{Heap, NoMemory};
+use heap_memory::{Heap, NoMemory};
 use std::io::{self, ErrorKind};
 use std::os::unix::fs::symlink;
 use std::rt::Files;

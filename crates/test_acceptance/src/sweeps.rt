@@ -1,7 +1,7 @@
 //! One case at each point of a device.
 
 use crate::tasks::Task;
-use memory::NoMemory;
+use heap_memory::NoMemory;
 use test_calls::{Desk, Tried, outcome_at};
 use test_parts::{CaseFault, Left, Sweep};
 

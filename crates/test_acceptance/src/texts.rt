@@ -3,7 +3,7 @@
 //! They are in the folders `cases` and `shared` of the folder where the program runs, or of `data` there. A line `use
 //! NAME` of a subject is replaced by the lines of `shared/NAME`.
 
-use memory::NoMemory;
+use heap_memory::NoMemory;
 use std::alloc::Global;
 use std::rt::Files;
 use std::{fs, io};

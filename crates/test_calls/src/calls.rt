@@ -6,7 +6,7 @@ use crate::subjects::Change;
 use archive_core::Archive;
 use archive_exchange::run;
 use archive_index::{IndexedArchive, PlainArchive};
-use memory::Heap;
+use heap_memory::Heap;
 use test_parts::{
     CaseFault, End, Ended, Failing, Left, Picked, Texts, addresses_of, bytes_of, first_word,
     number, print_fat, print_front, print_heaps, print_image, print_kind, print_merging,
@@ -14,7 +14,7 @@ use test_parts::{
     print_slice, print_strict_devices, print_summary, print_text, print_whole, print_writing,
     text_of,
 };
-use text_inputs::{Script, read_script};
+use text_scripts_and_frames::{Script, read_script};
 
 /// A call below the commands.
 #[derive(Clone, Copy)]

@@ -2,7 +2,7 @@
 
 use crate::subjects::{Change, Observation, Subject};
 use archive_core::Archive;
-use memory::{Heap, NoMemory};
+use heap_memory::{Heap, NoMemory};
 use test_parts::{CallFault, Ended, answers_of, print_text, read};
 
 /// Makes a call, and prints its result and the archive afterwards.

@@ -5,7 +5,7 @@ ghost use Rattle.std.specs.BTreeMap.{get_by_text};
 ghost use Rattle.byte_device.specs.Disks.{IsOpened, file_of};
 
 use byte_device::{CannotOpen, Placed, PlacedPieces, Source};
-use memory::{Heap, NoMemory};
+use heap_memory::{Heap, NoMemory};
 use std::alloc::Global;
 use std::io::ErrorKind;
 use test_parts::{CaseFault, Limits, Store, StrictSource};

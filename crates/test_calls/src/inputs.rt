@@ -7,7 +7,7 @@ ghost use Rattle.cli_files.specs.InputStates.{AreWaiting};
 use crate::desk::Desk;
 use byte_device::{CannotOpen, PlacedPieces};
 use cli_files::{Disk, LazyInput};
-use memory::NoMemory;
+use heap_memory::NoMemory;
 use test_parts::StrictSource;
 
 impl<'a> Disk for Desk<'a> {

@@ -1,7 +1,7 @@
 //! The result of a case at a point of a sweep, compared with the whole case.
 
 use command_common::{CommandFault, Failure};
-use memory::NoMemory;
+use heap_memory::NoMemory;
 use std::alloc::Global;
 use test_parts::{End, Left};
 

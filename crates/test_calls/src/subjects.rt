@@ -3,10 +3,10 @@
 use archive_core::{Archive, Operation, Slice, take_all};
 use archive_exchange::Site;
 use archive_index::take_each;
-use archive_read::read_ops;
+use archive_results::read_ops;
 use byte_device::Bytes;
+use heap_memory::Heap;
 use join_core::Join;
-use memory::Heap;
 use std::alloc::Global;
 use test_parts::{
     CallFault, Ended, answers_of, print_answers, print_beside, print_each_taking, print_text, read,

@@ -4,7 +4,7 @@
 ghost use Rattle.std.specs.Prelude.{◌≡◌, ◌<◌, None, Some, [], false, if◌then◌else◌};
 
 use byte_device::{Failed, Pieces, Short, Sink, Source, Target};
-use memory::Heap;
+use heap_memory::Heap;
 use std::mem;
 
 /// The bytes of a file, a few at a time, once.

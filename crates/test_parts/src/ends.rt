@@ -2,7 +2,7 @@
 
 use crate::faults::{CallFault, Ended};
 use command_common::{CommandFault, Failure, Status, exit_status};
-use memory::NoMemory;
+use heap_memory::NoMemory;
 use std::fmt;
 
 /// The result of a case.

@@ -1,14 +1,14 @@
 //! Why a case cannot be carried out, and why a call below the commands is refused.
 
-use archive_admission::TakeFault;
 use archive_core::{AdmitFault, SliceFault};
 use archive_exchange::{DeliverFault, ReplyFault};
+use archive_file_admission::TakeFault;
 use archive_records::{RecordFault, RecordFaultKind};
 use fat_slices::FatFault;
+use heap_memory::NoMemory;
 use hex::FromHexError;
 use macho_image::ImageFault;
 use macho_symbols::SymbolFault;
-use memory::NoMemory;
 use std::io;
 use std::num::ParseIntError;
 use thiserror::Error;

@@ -1,6 +1,6 @@
 //! Growths and bytes of memory that are granted or refused.
 
-use memory::{Heap, NoMemory};
+use heap_memory::{Heap, NoMemory};
 use std::alloc::Global;
 
 /// Prints the capacity of memory with this number of growths: the numbers in one vector, or in three that share them.

@@ -3,9 +3,9 @@
 use crate::archives::read;
 use crate::faults::{CallFault, Ended};
 use archive_core::{Archive, Operation, take_all};
-use archive_read::read_ops;
+use archive_results::read_ops;
 use byte_device::Bytes;
-use memory::{Heap, NoMemory};
+use heap_memory::{Heap, NoMemory};
 use std::alloc::Global;
 
 /// The texts of two archives, and of operations.

@@ -4,9 +4,9 @@ use crate::faults::Ended;
 use crate::printing::print_text;
 use archive_core::{ArchKey, Slice, SliceKey};
 use fat_slices::{Universal, kind};
+use heap_memory::{Heap, NoMemory};
 use macho_image::{Image, Section};
 use macho_symbols::{AddressTable, Found, Symbols};
-use memory::{Heap, NoMemory};
 use text_reports::{Escaped, Text};
 use text_values::{Address, Spelled};
 

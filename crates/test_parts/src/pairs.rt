@@ -6,7 +6,7 @@ use crate::printing::print_text;
 use archive_core::{Archive, Operation, Slice, take_all};
 use archive_merge::merge_streams;
 use byte_device::{Bytes, Grown};
-use memory::Heap;
+use heap_memory::Heap;
 use std::alloc::Global;
 
 // Pseudorandom numbers from a seed: the linear congruential generator of Knuth's MMIX.

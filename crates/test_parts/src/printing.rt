@@ -4,7 +4,7 @@ use crate::ends::{End, Left};
 use archive_core::Digest;
 use cli_arguments::LineFault;
 use command_common::exit_status;
-use memory::NoMemory;
+use heap_memory::NoMemory;
 use sha2::{Digest as _, Sha256};
 use text_values::Spelled;
 

@@ -6,7 +6,7 @@
 use crate::addresses::address;
 use crate::faults::{CallFault, Ended};
 use archive_core::{Answer, Archive, Record, SliceKey, Where};
-use memory::{Heap, NoMemory};
+use heap_memory::{Heap, NoMemory};
 use std::alloc::Global;
 use text_reports::{Text, find_lines, push_answer};
 

@@ -7,9 +7,9 @@ use crate::printing::print_text;
 use crate::questions::print_answers;
 use crate::words::first_word;
 use archive_core::{ArchKey, Archive, SliceKey};
-use archive_read::{Under, read_part};
 use archive_records::{RecordFault, key_prefix};
-use memory::{Heap, NoMemory};
+use archive_results::{Under, read_part};
+use heap_memory::{Heap, NoMemory};
 use text_values::Word;
 use uuid::Uuid;
 

@@ -6,7 +6,7 @@ use crate::devices::{StrictSink, StrictSource};
 use crate::faults::Ended;
 use crate::printing::print_text;
 use byte_device::{Failed, Reading, Sink, Source, Writing};
-use memory::{Heap, NoMemory};
+use heap_memory::{Heap, NoMemory};
 use std::io::{self, Error, ErrorKind, Read, Write};
 
 /// The result of the second call of a stream, if it differs from the others.

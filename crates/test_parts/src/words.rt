@@ -3,7 +3,7 @@
 //! A line is cut at each space. The text between two `"` is one word, with its spaces; in a line that has such words,
 //! an empty word is `""`.
 
-use memory::NoMemory;
+use heap_memory::NoMemory;
 use std::alloc::Global;
 
 /// The first word, and the rest.

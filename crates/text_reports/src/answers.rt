@@ -9,8 +9,8 @@ use crate::Text;
 use crate::frames::{push_frame_list_at, push_frame_lists};
 use archive_core::{Answer, Digest, Own};
 use dwarf_source_frames::SourceFrame;
+use heap_memory::{Heap, NoMemory};
 use macho_symbols::Found;
-use memory::{Heap, NoMemory};
 use std::{fmt, str};
 use text_values::{Address, Spelled};
 

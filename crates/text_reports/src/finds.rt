@@ -8,7 +8,7 @@ ghost use Rattle.text_reports.specs.Finds.{conflict_line, find_row_text, groups_
 
 use crate::Text;
 use archive_core::{ArchKey, FindRow, FindState, SliceKey, is_key};
-use memory::{Heap, NoMemory};
+use heap_memory::{Heap, NoMemory};
 use std::fmt;
 use text_values::Spelled;
 

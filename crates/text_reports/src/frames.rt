@@ -12,7 +12,7 @@ use crate::Escaped;
 use crate::answers::EscapedByte;
 use dwarf_lines::PathParts;
 use dwarf_source_frames::SourceFrame;
-use memory::{Heap, NoMemory};
+use heap_memory::{Heap, NoMemory};
 
 // Whether the bytes after a space of a name, and the space after the name, begin with `at `.
 fn is_at(after: &[u8]) -> bool

@@ -5,7 +5,7 @@ ghost use Rattle.text_reports.specs.Names.{name_lines};
 
 use crate::{Escaped, Text};
 use archive_core::{NameRow, OwnedNameRow};
-use memory::{Heap, NoMemory};
+use heap_memory::{Heap, NoMemory};
 use std::fmt;
 use text_values::{Address, Spelled};
 

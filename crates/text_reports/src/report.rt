@@ -5,7 +5,7 @@ ghost use Rattle.text_reports.specs.Report.{admit_lines, retire_line, apply_line
 use crate::{AdmitRow, Text};
 use archive_core::{Digest, SliceKey};
 use archive_records::Sizes;
-use memory::{Heap, NoMemory};
+use heap_memory::{Heap, NoMemory};
 use text_values::Spelled;
 
 /// The lines of `admit`: one for each slice, in the order of the rows. Fails only if memory runs out.

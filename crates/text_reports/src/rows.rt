@@ -1,8 +1,8 @@
 //! The rows that commands report.
 
 use crate::Text;
-use archive_admission::Taken;
 use archive_core::SliceKey;
+use archive_file_admission::Taken;
 use archive_records::Sizes;
 use std::fmt;
 use text_values::Spelled;

@@ -12,7 +12,7 @@ ghost use Rattle.text_reports.specs.InnerSlices.{own_key, row_key};
 use crate::Text;
 use crate::finds::{KeyForm, push_rows};
 use archive_core::{FindRow, FindState, SliceKey, compare_keys};
-use memory::{Heap, NoMemory};
+use heap_memory::{Heap, NoMemory};
 use std::cmp::Ordering;
 use std::fmt;
 

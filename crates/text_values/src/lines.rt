@@ -3,7 +3,7 @@
 ghost use Rattle.std.specs.Prelude.{◌≡◌, ◌<◌, ◌^◌, ◌∷◌, All, IfOk, length, option_map, slice_get};
 ghost use Rattle.text_values.specs.Lines.{counting, counts, fields_after, line_at, line_count, lines, parts, seen};
 
-use memory::{Heap, NoMemory};
+use heap_memory::{Heap, NoMemory};
 
 /// The lines of a file that count, each after the number of the lines before it. Fails only if memory runs out.
 pub fn lines_that_count(heap: Heap, bytes: &[u8]) -> Result<Vec<(usize, &[u8]), Heap>, NoMemory>

@@ -1,5 +1,5 @@
 use Rattle.std.proofs.Common.{◌≡◌, ◌∙◌, ◌++◌, ap, length, map}
-use Rattle.command_write.proofs.Taking.{always as on_any}
+use Rattle.command_archives.proofs.Taking.{always as on_any}
 use Rattle.cli_arguments.specs.{Inputs.inputs_view, LineView.line_view, Lines.inputs_of}
 use Rattle.cli_run.proofs.Waiting.{all_of_line, as_many}
 use Rattle.cli_run.proofs.files.inputs_for.Goals as goal

@@ -3,7 +3,7 @@ use Rattle.byte_device.proofs.Known.{Appends-none}
 use Rattle.command_common.proofs.{Endings.reported}
 use Rattle.command_common.proofs.Parts.{together_refused, together_tells}
 use Rattle.cli_run.proofs.queries.name.Goals as goal
-use Rattle.command_write.proofs.Taking.{always as on_any}
+use Rattle.command_archives.proofs.Taking.{always as on_any}
 
 pub returns-in_err-answer-clause-ends : goal.returns-in_err-answer-clause-ends
 returns-in_err-answer-clause-ends g c =

@@ -1,7 +1,7 @@
 use Rattle.std.proofs.Common.{◌≡◌, ◌∙◌, ap, length, sym}
 use Rattle.std.proofs.lemmas.List.{with_items_is}
 use Rattle.std.specs.Vec.{with_items}
-use Rattle.command_write.specs.{Retire.retire_as_it_comes}
+use Rattle.command_archives.specs.{Retire.retire_as_it_comes}
 use Rattle.command_common.specs.{Inputs.readers, Outputs.out_of, Outputs.outs, Outputs.writer}
 use Rattle.cli_run.specs.Plans.{EndsDeed, admitted_of, streams}
 use Rattle.cli_run.proofs.First.{admit_ends, first_ends}

@@ -1,4 +1,4 @@
-use Rattle.command_write.proofs.Passing.{as_admitted, as_passing}
+use Rattle.command_archives.proofs.Passing.{as_admitted, as_passing}
 use Rattle.laws_archive.proofs.outcome_laws.none_passed_over.Goals as goal
 
 pub returns-clause-done : goal.returns-clause-done

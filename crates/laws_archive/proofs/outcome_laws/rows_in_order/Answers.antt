@@ -3,13 +3,13 @@ use Rattle.std.proofs.Common.{drop-cons, Some, refl, sym, ap, ◌∙◌, add-one
 use Rattle.std.proofs.lemmas.Option.{get_or_from_slice_get, slice_get_within}
 use Rattle.std.proofs.lemmas.Grind.{flat_map-append}
 use Rattle.archive_core.specs.Content.{Operations}
-use Rattle.archive_admission.specs.File.{parts, admissible}
-use Rattle.archive_admission.specs.Take.{admitted, taken_rows}
-use Rattle.archive_admission.proofs.Fronts.{front_more as front_with}
-use Rattle.archive_admission.proofs.Rows.{admitted-append}
+use Rattle.archive_file_admission.specs.File.{parts, admissible}
+use Rattle.archive_file_admission.specs.Take.{admitted, taken_rows}
+use Rattle.archive_file_admission.proofs.Fronts.{front_more as front_with}
+use Rattle.archive_file_admission.proofs.Rows.{admitted-append}
 use Rattle.text_reports.specs.declared.rows.AdmitRow.{AdmitRow}
-use Rattle.command_write.specs.Admit.{images_of, file_rows, admit_rows}
-use Rattle.command_write.proofs.Files.{admit_rows-append}
+use Rattle.command_archives.specs.Admit.{images_of, file_rows, admit_rows}
+use Rattle.command_archives.proofs.Files.{admit_rows-append}
 use Rattle.laws_archive.proofs.outcome_laws.rows_in_order.Goals as goal
 
 -- a list with the element at a place between what is before and after it

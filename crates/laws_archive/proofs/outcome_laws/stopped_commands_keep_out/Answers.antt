@@ -2,14 +2,14 @@ use Rattle.std.proofs.Common.{List, [], ◌∷◌}
 use Rattle.command_common.proofs.Amidst.{nothing_first}
 use Rattle.command_common.specs.Inputs.{EachKnown, Reader}
 use Rattle.command_common.specs.Outputs.{Outs, Writer, out_of}
-use Rattle.command_write.specs.Admit.{admit}
-use Rattle.command_write.specs.Apply.{apply}
-use Rattle.command_write.specs.Delta.{delta}
-use Rattle.command_write.specs.Merge.{merge}
-use Rattle.command_write.specs.MergeStreams.{merge_as_it_comes}
-use Rattle.command_write.specs.Migrate.{migrate}
-use Rattle.command_write.specs.PassedOver.{admit_passing}
-use Rattle.command_write.specs.Retire.{retire}
+use Rattle.command_archives.specs.Admit.{admit}
+use Rattle.command_archives.specs.Apply.{apply}
+use Rattle.command_archives.specs.Delta.{delta}
+use Rattle.command_archives.specs.Merge.{merge}
+use Rattle.command_archives.specs.MergeStreams.{merge_as_it_comes}
+use Rattle.command_archives.specs.Migrate.{migrate}
+use Rattle.command_archives.specs.PassedOver.{admit_passing}
+use Rattle.command_archives.specs.Retire.{retire}
 use Rattle.laws_archive.specs.Stops.{LeavesBeginningIfStopped}
 use Rattle.laws_archive.proofs.Stops.{WritesBeginning, first_of_good_records, stopped_amidst, stopped_in_turn, stopped_of_one}
 use Rattle.laws_archive.proofs.outcome_laws.stopped_commands_keep_out.Goals as goal

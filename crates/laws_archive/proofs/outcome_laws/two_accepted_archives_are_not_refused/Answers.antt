@@ -1,5 +1,5 @@
 use Rattle.command_common.specs.Outputs.{draft_of}
-use Rattle.command_write.proofs.Streamed.{one_device}
+use Rattle.command_archives.proofs.Streamed.{one_device}
 use Rattle.laws_archive.proofs.outcome_laws.two_accepted_archives_are_not_refused.Goals as goal
 
 pub returns : goal.returns

@@ -6,8 +6,8 @@ use Rattle.command_common.specs.declared.faults.Status.{Status}
 use Rattle.command_common.specs.Ends.{Carries, EndsStreamed}
 use Rattle.command_common.specs.Inputs.{Reader}
 use Rattle.command_common.specs.Outputs.{IsPublished, Out, Outs, Writer, out_of}
-use Rattle.command_write.specs.Merge.{merge}
-use Rattle.command_write.specs.MergeStreams.{merge_as_it_comes}
+use Rattle.command_archives.specs.Merge.{merge}
+use Rattle.command_archives.specs.MergeStreams.{merge_as_it_comes}
 use Rattle.laws_archive.specs.Sequences.{ByNew, HasAtOut, IsOutOf, Writes}
 use Rattle.laws_archive.proofs.sequence_laws.calls_write_outs.Goals as goal
 

@@ -16,7 +16,7 @@ use Rattle.archive_records.proofs.Contents.{content_is}
 use Rattle.text_reports.specs.Report.{apply_line}
 use Rattle.command_common.specs.Inputs.{Reader, reader}
 use Rattle.command_common.specs.Outputs.{report_of}
-use Rattle.command_write.specs.Apply.{apply}
+use Rattle.command_archives.specs.Apply.{apply}
 use Rattle.laws_archive.specs.Sequences.{IsOutOf, Writes, as_set}
 use Rattle.laws_archive.specs.Sequences.{ByApply, ByNew, OfCommand}
 use Rattle.laws_archive.proofs.Sequences.{more_made, none_are, nothing_union}

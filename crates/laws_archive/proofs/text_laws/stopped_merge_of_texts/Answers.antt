@@ -1,4 +1,4 @@
-use Rattle.command_write.proofs.Beginnings.{first_of_join}
+use Rattle.command_archives.proofs.Beginnings.{first_of_join}
 use Rattle.laws_archive.proofs.text_laws.stopped_merge_of_texts.Goals as goal
 
 pub returns : goal.returns

@@ -1,6 +1,0 @@
-use Rattle.std.proofs.Common.{◌≡◌, take, string_bytes}
-use Rattle.cli_messages.specs.StandardError.{note_lines}
-use Rattle.cli_messages.proofs.standard_error.lines_of.Given as goal
-
-abbrev pub invariant-notes : goal.invariant-notes
-invariant-notes l = string_bytes l.lines ≡ note_lines (take l.note-index l.notes)

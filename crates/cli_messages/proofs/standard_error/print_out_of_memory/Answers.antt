@@ -1,4 +1,0 @@
-use Rattle.cli_messages.proofs.standard_error.print_out_of_memory.Goals as goal
-
-pub returns : goal.returns
-returns g c = c.push_whole.ensures

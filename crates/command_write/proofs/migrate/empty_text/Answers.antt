@@ -1,6 +1,0 @@
-use Rattle.std.proofs.Common.{sym}
-use Rattle.command_write.proofs.Joined.{empty_written}
-use Rattle.command_write.proofs.migrate.empty_text.Goals as goal
-
-pub returns : goal.returns
-returns c = sym empty_written
