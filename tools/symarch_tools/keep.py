@@ -11,8 +11,8 @@ from .console.faults import CutShort, Failed, system_text
 from .console.progress import progress
 from .console.screen import Screen
 from .console.signals import Stopped, signals
-from .console.streams import columns
 from .console.unforeseen_faults import DEBUG, HELP, debugging, guarded, unforeseen
+from .console.widths import help_form
 from .store.file_names import is_archive
 
 DESCRIPTION = """\
@@ -114,17 +114,12 @@ class CommandParser(argparse.ArgumentParser):
             sys.exit(screen.status())
 
 
-def shape(prog: str) -> argparse.HelpFormatter:
-    """The form of a help. argparse makes one for each argument, and would import other modules to find the width."""
-    return argparse.RawDescriptionHelpFormatter(prog, width=columns() - 2)
-
-
 def whole_parser(arguments: Sequence[str]) -> CommandParser:
     """The parser of calls that begin with no command, so that all commands are listed; or else only the version is
     printed."""
     from .console.version import PrintVersion
 
-    parser = CommandParser("symarch-keep", description=DESCRIPTION, formatter_class=shape, allow_abbrev=False)
+    parser = CommandParser("symarch-keep", description=DESCRIPTION, formatter_class=help_form, allow_abbrev=False)
     parser.add_argument(VERSION, action=PrintVersion, nargs=0, help="print the version and exit")
     # It is taken out before, since it may be anywhere.
     parser.add_argument(DEBUG, action="store_true", help=HELP)
@@ -141,7 +136,7 @@ def module_of(name: str) -> Any:
 def parser_of(name: str) -> CommandParser:
     """The parser of a command."""
     module = module_of(name)
-    more = {"usage": module.USAGE, "description": module.DESCRIPTION, "formatter_class": shape}
+    more = {"usage": module.USAGE, "description": module.DESCRIPTION, "formatter_class": help_form}
     parser = CommandParser(f"symarch-keep {name}", allow_abbrev=False, **more)
     if name not in ASKING:
         parser.add_argument("--quiet", action="store_true", help=QUIET)

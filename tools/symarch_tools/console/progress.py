@@ -7,7 +7,7 @@ import time
 from dataclasses import dataclass
 from typing import Callable, Union
 
-from .streams import COLUMNS
+from .widths import columns_of
 
 # The line comes after so many seconds, and is written anew as often. A stage that goes on for so long has a speed.
 LEAST, PAUSE, LEAST_OF_STAGE = 2.0, 0.2, 1.0
@@ -48,7 +48,7 @@ class Progress:
         if self.first >= 0 and now >= self.next and is_terminal():
             self.next = now + PAUSE
             done = size if isinstance(size, int) else size()
-            self.put(f"{WIPE}{self.text(count, done, now - self.began)[:columns() - 1]}")
+            self.put(f"{WIPE}{self.text(count, done, now - self.began)[:columns_of(sys.stderr) - 1]}")
             self.is_shown = True
 
     def text(self, count: int, done: int, took: float) -> str:
@@ -77,12 +77,6 @@ class Progress:
 def is_terminal() -> bool:
     """Whether standard error is a terminal on which a line can be wiped."""
     return sys.stderr is not None and sys.stderr.isatty() and os.environ.get("TERM") != "dumb"
-
-
-def columns() -> int:
-    with contextlib.suppress(OSError, AttributeError, ValueError):
-        return os.get_terminal_size(sys.stderr.fileno()).columns or COLUMNS
-    return COLUMNS
 
 
 def bytes_text(size: int) -> str:

@@ -13,8 +13,6 @@ from .faults import about
 
 # What was said that is wrong, as --json prints it.
 noted: List[str] = []
-# How many columns a terminal has that does not say it.
-COLUMNS = 80
 # What JSON may escape and UTF-8 does not have, except for what stands for bytes that were no UTF-8.
 LONE_SURROGATE = re.compile("[\ud800-\udc7f\udd00-\udfff]")
 
@@ -55,17 +53,6 @@ def standard_input() -> bytes:
         if sys.stdin is None:
             raise OSError(errno.EBADF, "closed")
         return sys.stdin.buffer.read()
-
-
-def columns() -> int:
-    """How many columns a help has, as `shutil.get_terminal_size` finds it: by COLUMNS, or by standard output."""
-    with contextlib.suppress(KeyError, ValueError):
-        wanted = int(os.environ["COLUMNS"])
-        if wanted > 0:
-            return wanted
-    with contextlib.suppress(OSError, AttributeError, ValueError):
-        return os.get_terminal_size(sys.stdout.fileno()).columns or COLUMNS
-    return COLUMNS
 
 
 def write(descriptor: int, data: bytes) -> None:

@@ -9,9 +9,10 @@ from dataclasses import dataclass
 from typing import Any, Dict, List, NoReturn, Optional, Sequence, Tuple
 
 from ..console.escapes import line_shown, shown
-from ..console.streams import columns, printing, say
+from ..console.streams import printing, say
 from ..console.unforeseen_faults import DEBUG, HELP
 from ..console.version import PrintVersion
+from ..console.widths import help_form
 from ..store.file_names import beginning, is_archive, is_zip_file
 from .encodings import decoded
 from .faults import Failure, Status
@@ -97,13 +98,8 @@ class Once(argparse.Action):
         setattr(namespace, self.dest, True if self.nargs == 0 else value)
 
 
-def shape(prog: str) -> argparse.HelpFormatter:
-    """The form of a help. argparse makes one for each argument, and would import other modules to find the width."""
-    return argparse.RawDescriptionHelpFormatter(prog, width=columns() - 2)
-
-
 def parser_of_options() -> ReportParser:
-    parser = ReportParser(NAME, usage=USAGE, description=DESCRIPTION, formatter_class=shape, allow_abbrev=False)
+    parser = ReportParser(NAME, usage=USAGE, description=DESCRIPTION, formatter_class=help_form, allow_abbrev=False)
     parser.add_argument("names", nargs="*", metavar="REPORT... ARCHIVE...", help=REPORTS)
     for option, (field, help) in FLAGS.items():
         parser.add_argument(option, dest=field, action=Once, nargs=0, default=False, help=help)
