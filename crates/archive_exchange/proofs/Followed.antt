@@ -16,14 +16,14 @@ use Rattle.archive_records.proofs.Versions.{one_content}
 use Rattle.archive_exchange.specs.World as model
 use Rattle.archive_exchange.specs.World.{World, Event, File, Fault, Content, Summary, site_of, records, fault_at_site, fault_of, effect, answer, refused_or}
 use Rattle.archive_exchange.specs.World.{with_saved}
-use Rattle.archive_file_admission.specs.File.{IsAcceptedFile, IsTakeFault, admissible, parts}
-use Rattle.archive_file_admission.specs.Take.{admitted}
+use Rattle.archive_image_admission.specs.File.{IsAcceptedFile, IsTakeFault, admissible, parts}
+use Rattle.archive_image_admission.specs.Take.{admitted}
 use Rattle.archive_exchange.specs.SiteState.{SiteState, IsArchiveTextOf, HasJoined, IsDeliverFault, IsReplyFault, RepliesTo}
 use Rattle.archive_exchange.specs.ModelEvent.{IsFile, OutcomeIs, fault_told, part_record}
 use Rattle.archive_exchange.specs.WorldState.{message_text, Represents}
 use Rattle.archive_exchange.specs.InnerEvents.{Follows}
-use Rattle.archive_file_admission.specs.declared.fault.TakeFault.{TakeFault}
-use Rattle.archive_file_admission.specs.declared.fault.TakeFault.TheVariants.{OutOfMemory}
+use Rattle.archive_image_admission.specs.declared.fault.TakeFault.{TakeFault}
+use Rattle.archive_image_admission.specs.declared.fault.TakeFault.TheVariants.{OutOfMemory}
 use Rattle.archive_exchange.specs.declared.fault.DeliverFault.{DeliverFault}
 use Rattle.archive_exchange.specs.declared.fault.DeliverFault.TheVariants as deliver
 use Rattle.archive_exchange.specs.declared.fault.ReplyFault.TheVariants as reply

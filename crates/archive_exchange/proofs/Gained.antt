@@ -20,27 +20,27 @@ use Rattle.archive_exchange.specs.World as model
 use Rattle.archive_exchange.specs.World.{records, rows, World}
 use Rattle.archive_exchange.proofs.Content.{taken_gain}
 use Rattle.archive_exchange.proofs.Kept.{either}
-use Rattle.archive_file_admission.specs.File.{IsAcceptedFile, is_admissible, admissible, parts, IsTakeFault}
-use Rattle.archive_file_admission.specs.Take.{admitted, taken_of, taken_rows, HoldsFirstParts}
+use Rattle.archive_image_admission.specs.File.{IsAcceptedFile, is_admissible, admissible, parts, IsTakeFault}
+use Rattle.archive_image_admission.specs.Take.{admitted, taken_of, taken_rows, HoldsFirstParts}
 use Rattle.archive_exchange.specs.ModelEvent.{part_record, row_told, ModelEvent, IsFile, IsSeen, AreSeen}
 use Rattle.archive_exchange.specs.InnerEvents.{IsRecorded, SeenFile}
-use Rattle.archive_file_admission.specs.declared.taken.Taken.TheVariants as taken
-use Rattle.archive_file_admission.proofs.Files.{kept_is}
-use Rattle.archive_file_admission.specs.declared.fault.TakeFault.{TakeFault}
-use Rattle.archive_file_admission.specs.declared.fault.TakeFault.TheVariants.{OutOfMemory}
-use Rattle.text_scripts_and_frames.specs.declared.event.Event.{Event}
-use Rattle.text_scripts_and_frames.specs.declared.event.Event.TheVariants.{Take, Retire, Full, Ask, Reply, Deliver, Save, Stop}
+use Rattle.archive_image_admission.specs.declared.taken.Taken.TheVariants as taken
+use Rattle.archive_image_admission.proofs.Files.{kept_is}
+use Rattle.archive_image_admission.specs.declared.fault.TakeFault.{TakeFault}
+use Rattle.archive_image_admission.specs.declared.fault.TakeFault.TheVariants.{OutOfMemory}
+use Rattle.text_input_files.specs.declared.event.Event.{Event}
+use Rattle.text_input_files.specs.declared.event.Event.TheVariants.{Take, Retire, Full, Ask, Reply, Deliver, Save, Stop}
 use Rattle.std.proofs.lemmas.Result.{on_ok_weaker}
 use Rattle.std.specs.Ordering.{nat_cmp}
 use Rattle.archive_core.specs.declared.keys.SliceKey.{SliceKey}
 use Rattle.archive_core.specs.declared.keys.Digest.{Digest}
-use Rattle.archive_file_admission.specs.Accepted.{IsAcceptedAs}
-use Rattle.archive_file_admission.specs.InnerTaking.{file_of}
-use Rattle.archive_file_admission.specs.declared.checking.AcceptedFile.{AcceptedFile}
-use Rattle.archive_file_admission.specs.declared.checking.AcceptedFile.TheVariants.{Thin, Universal}
+use Rattle.archive_image_admission.specs.Accepted.{IsAcceptedAs}
+use Rattle.archive_image_admission.specs.InnerTaking.{file_of}
+use Rattle.archive_image_admission.specs.declared.checking.AcceptedFile.{AcceptedFile}
+use Rattle.archive_image_admission.specs.declared.checking.AcceptedFile.TheVariants.{Thin, Universal}
 use Rattle.archive_exchange.specs.SiteState.{SiteState, IsWhole, IsBetween}
 use Rattle.archive_exchange.specs.WorldState.{RunState, AreSites, Represents}
-use Rattle.archive_file_admission.proofs.Resumed.{above_old, below_asked}
+use Rattle.archive_image_admission.proofs.Resumed.{above_old, below_asked}
 
 pub records_seen : (ps : List (List ℕ)) → records (map part_record ps) ≡ map admission_record (filter is_admissible ps)
 records_seen [] = refl

@@ -15,8 +15,8 @@ use Rattle.archive_core.specs.Content.{Operations}
 use Rattle.archive_exchange.specs.SiteState.{SiteState}
 use Rattle.archive_exchange.specs.WorldState.{Represents, message_text}
 use Rattle.archive_exchange.specs.ModelEvent.{ModelEvent, AreSeen, OutcomeIs}
-use Rattle.text_scripts_and_frames.specs.declared.event.Event.{Event as Event_given}
-use Rattle.archive_file_admission.specs.declared.fault.TakeFault.{TakeFault}
+use Rattle.text_input_files.specs.declared.event.Event.{Event as Event_given}
+use Rattle.archive_image_admission.specs.declared.fault.TakeFault.{TakeFault}
 use Rattle.archive_exchange.specs.declared.outcome.Outcome.{Outcome}
 use Rattle.archive_exchange.specs.declared.outcome.Outcome.TheVariants.{Sent}
 use Rattle.command_common.proofs.Readers.{all_more}

@@ -18,9 +18,9 @@ use Rattle.archive_exchange.specs.ModelEvent.{IsSeen, AreSeen, OutcomeIs}
 use Rattle.archive_exchange.specs.InnerEvents.{IsRecorded, Happens, HasRun}
 use Rattle.archive_exchange.specs.WorldState.{Represents}
 use Rattle.archive_exchange.specs.Alike.{AreAlike}
-use Rattle.text_scripts_and_frames.specs.declared.event.Event as code
+use Rattle.text_input_files.specs.declared.event.Event as code
 use Rattle.archive_exchange.specs.declared.outcome.Outcome as answered
-use Rattle.archive_file_admission.specs.declared.fault.TakeFault.{TakeFault}
+use Rattle.archive_image_admission.specs.declared.fault.TakeFault.{TakeFault}
 
 -- what an event of the list is
 record SeenAt (seen : List (Event TakeFault)) (i : ℕ) (event : code.Event) : Type 0 where

@@ -10,8 +10,8 @@ use Rattle.archive_exchange.specs.declared.outcome.EventFault.TheVariants.{Refus
 use Rattle.archive_exchange.specs.declared.outcome.Outcome.{Outcome}
 use Rattle.archive_exchange.specs.declared.outcome.Outcome.TheVariants.{Took, Retired, Sent, Delivered}
 use Rattle.archive_exchange.specs.declared.outcome.Outcome.TheVariants.{Saved, Stopped, Refused}
-use Rattle.archive_file_admission.specs.declared.taken.Taken.{Taken}
-use Rattle.archive_file_admission.specs.declared.taken.Taken.TheVariants.{Added, Known, Skipped}
+use Rattle.archive_image_admission.specs.declared.taken.Taken.{Taken}
+use Rattle.archive_image_admission.specs.declared.taken.Taken.TheVariants.{Added, Known, Skipped}
 use Rattle.text_values.specs.Words.{digest_text}
 use Rattle.text_reports.specs.Report.{line}
 use Rattle.text_reports.specs.Texts.{called, record_fault_text, take_fault_text}

@@ -12,7 +12,7 @@ use Rattle.archive_exchange.specs.SiteState.{SiteState}
 use Rattle.archive_exchange.specs.ModelEvent.{OutcomeIs}
 use Rattle.archive_exchange.specs.WorldState.{Represents}
 use Rattle.archive_exchange.specs.declared.outcome.Outcome.{Outcome}
-use Rattle.archive_file_admission.specs.declared.fault.TakeFault.{TakeFault}
+use Rattle.archive_image_admission.specs.declared.fault.TakeFault.{TakeFault}
 
 -- a file in the definitions of sites
 abbrev pub SeenFile : Type 0

@@ -10,14 +10,14 @@ use Rattle.archive_core.specs.Record.{admission_record, retirement_record}
 use Rattle.archive_records.specs.declared.fault.RecordFault.{RecordFault}
 use Rattle.archive_records.specs.declared.fault.RecordFaultKind.TheVariants.{BadMagic}
 use Rattle.archive_exchange.specs.World as model
-use Rattle.archive_file_admission.specs.File.{IsAcceptedFile, IsTakeFault, is_admissible, parts}
-use Rattle.archive_file_admission.specs.declared.fault.TakeFault.{TakeFault}
-use Rattle.archive_file_admission.specs.declared.fault.TakeFault.TheVariants.{OutOfMemory}
-use Rattle.archive_file_admission.specs.declared.taken.Taken.{Taken}
-use Rattle.archive_file_admission.specs.declared.taken.Taken.TheVariants.{Added, Known, Skipped}
-use Rattle.text_scripts_and_frames.specs.declared.event.Event.{Event}
-use Rattle.text_scripts_and_frames.specs.declared.event.Event.TheVariants.{Take, Retire, Full, Ask, Reply, Deliver}
-use Rattle.text_scripts_and_frames.specs.declared.event.Event.TheVariants.{Save, Stop}
+use Rattle.archive_image_admission.specs.File.{IsAcceptedFile, IsTakeFault, is_admissible, parts}
+use Rattle.archive_image_admission.specs.declared.fault.TakeFault.{TakeFault}
+use Rattle.archive_image_admission.specs.declared.fault.TakeFault.TheVariants.{OutOfMemory}
+use Rattle.archive_image_admission.specs.declared.taken.Taken.{Taken}
+use Rattle.archive_image_admission.specs.declared.taken.Taken.TheVariants.{Added, Known, Skipped}
+use Rattle.text_input_files.specs.declared.event.Event.{Event}
+use Rattle.text_input_files.specs.declared.event.Event.TheVariants.{Take, Retire, Full, Ask, Reply, Deliver}
+use Rattle.text_input_files.specs.declared.event.Event.TheVariants.{Save, Stop}
 use Rattle.archive_exchange.specs.declared.outcome.EventFault.{EventFault}
 use Rattle.archive_exchange.specs.declared.outcome.EventFault.TheVariants.{NoSite, NoMessage, NotASummary}
 use Rattle.archive_exchange.specs.declared.outcome.EventFault.TheVariants.{Refused as Text_refused, File}

@@ -7,9 +7,9 @@ use Rattle.archive_records.specs.Text.{written}
 use Rattle.archive_exchange.specs.World.{World, state, outcomes}
 use Rattle.archive_exchange.specs.WorldState.{message_text}
 use Rattle.archive_exchange.specs.ModelEvent.{ModelEvent, AreSeen, OutcomeIs}
-use Rattle.text_scripts_and_frames.specs.declared.event.Event.{Event}
+use Rattle.text_input_files.specs.declared.event.Event.{Event}
 use Rattle.archive_exchange.specs.declared.outcome.Outcome.{Outcome}
-use Rattle.text_scripts_and_frames.specs.Script.{acts, script_of}
+use Rattle.text_input_files.specs.Script.{acts, script_of}
 use Rattle.archive_exchange.specs.EventLines.{event_lines, site_line}
 use Rattle.command_common.specs.declared.faults.Status.{Status}
 use Rattle.command_common.specs.declared.faults.Status.TheVariants.{Done}

@@ -8,10 +8,10 @@ ghost use Rattle.archive_exchange.specs.InnerEvents.{SeenFile, IsRecorded, Follo
 use crate::message::Message;
 use crate::{DeliverFault, EventFault, Outcome, ReplyFault, Site};
 use archive_core::{Archive, Digest, SliceKey};
-use archive_file_admission::TakeFault;
-use archive_file_admission::laws::one_take_fault;
+use archive_image_admission::TakeFault;
+use archive_image_admission::laws::one_take_fault;
 use heap_memory::{Heap, NoMemory};
-use text_scripts_and_frames::Event;
+use text_input_files::Event;
 
 fn send(messages: &mut Vec<Message, Heap>, text: Vec<u8, Heap>) -> Result<Outcome, NoMemory>
     ensures sent { OnOk result (messages.new.items ≡ messages.old.items ++ text.items ∷ []) }

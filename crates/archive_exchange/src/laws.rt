@@ -6,9 +6,9 @@ ghost use Rattle.std.specs.Prelude.{◌≡◌, ℕ, List};
 ghost use Rattle.archive_core.specs.Content.{IsContent, IsBelow};
 ghost use Rattle.archive_exchange.specs.SiteState.{SiteState, HasJoined, HasJoinedInPart};
 ghost use Rattle.archive_exchange.specs.ModelEvent.{ModelEvent, AreSeen};
-ghost use Rattle.text_scripts_and_frames.specs.declared.event.Event.{Event};
+ghost use Rattle.text_input_files.specs.declared.event.Event.{Event};
 
-use archive_file_admission::laws::one_take_fault;
+use archive_image_admission::laws::one_take_fault;
 
 /// A delivery that stopped half way left a content between the old one and the result, and has the same result if it is
 /// repeated.

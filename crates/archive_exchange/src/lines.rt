@@ -9,7 +9,7 @@ ghost use Rattle.text_reports.specs.Report.{line};
 use crate::outcome::{EventFault, Outcome};
 use crate::world::World;
 use archive_core::{Archive, Digest};
-use archive_file_admission::Taken;
+use archive_image_admission::Taken;
 use archive_records::Sizes;
 use heap_memory::{Heap, NoMemory};
 use std::fmt::{self, Display};

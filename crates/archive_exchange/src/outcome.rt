@@ -1,6 +1,6 @@
 //! The outcome of an event.
 
-use archive_file_admission::{TakeFault, Taken};
+use archive_image_admission::{TakeFault, Taken};
 use archive_records::RecordFault;
 use heap_memory::Heap;
 

@@ -18,7 +18,7 @@ use byte_device::{Sink, Source};
 use command_common::{CommandFault, Status, read_script_input, write_report};
 use heap_memory::{Heap, NoMemory};
 use sha2::{Digest as _, Sha256};
-use text_scripts_and_frames::Script;
+use text_input_files::Script;
 
 /// Adds the line of a site; its archive's text is built for its size and its SHA-256.
 fn push_held<A: Archive + Drop>(

@@ -19,9 +19,9 @@ use crate::model_laws::{
 };
 use crate::{Outcome, Site, World};
 use archive_core::Archive;
-use archive_file_admission::TakeFault;
+use archive_image_admission::TakeFault;
 use heap_memory::{Heap, NoMemory};
-use text_scripts_and_frames::Event;
+use text_input_files::Event;
 
 fn empty_sites<A: Archive + Drop>(heap: &Heap, sites: u32) -> Result<Vec<Site<A>, Heap>, NoMemory>
     ensures number { IfOk result (λ row. length row.items ≡ sites) }

@@ -5,19 +5,19 @@ ghost use Rattle.archive_core.specs.Content.{with_record, changes, joined};
 ghost use Rattle.archive_core.specs.Record.{retirement_record, IsRecord};
 ghost use Rattle.archive_core.specs.Summary.{Entries, summary, delta};
 ghost use Rattle.archive_records.specs.Text.{written, summary_text};
-ghost use Rattle.archive_file_admission.specs.File.{IsAcceptedFile, IsTakeFault, admissible, parts};
-ghost use Rattle.archive_file_admission.specs.Take.{admitted, taken_rows, HoldsFirstParts};
+ghost use Rattle.archive_image_admission.specs.File.{IsAcceptedFile, IsTakeFault, admissible, parts};
+ghost use Rattle.archive_image_admission.specs.Take.{admitted, taken_rows, HoldsFirstParts};
 ghost use Rattle.archive_exchange.specs.SiteState.{IsArchiveTextOf, Gives, IsWhole, IsBetween};
 ghost use Rattle.archive_exchange.specs.SiteState.{IsDeliverFault, HasJoined, HasJoinedInPart};
 ghost use Rattle.archive_exchange.specs.SiteState.{Names, RepliesTo, IsReplyFault};
 
 use crate::{DeliverFault, ReplyFault};
 use archive_core::{Archive, Digest, Operation, SliceKey, take_all};
-use archive_file_admission::{TakeFault, Taken, check_file, take_accepted};
+use archive_from_records::read_archive;
+use archive_image_admission::{TakeFault, Taken, check_file, take_accepted};
 use archive_records::{
     RecordFaultKind, Summary, read_summary, write_archive, write_delta, write_summary,
 };
-use archive_results::read_archive;
 use byte_device::{Bytes, Grown};
 use heap_memory::{Heap, NoMemory};
 use std::marker::Model;

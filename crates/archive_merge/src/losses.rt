@@ -17,10 +17,9 @@ use heap_memory::Heap;
 /// either and of one byte for each record of the old one.
 ///
 /// # Errors
-///
-/// `Left` with the fault that `read_archive` of `archive_results` returns for the new archive, and `Right` with that of
-/// the old one: if both are refused, it is the one that stops [`merge_streams`](crate::merge_streams). `Write` is never
-/// returned.
+/// `Left` with the fault that `read_archive` of `archive_from_records` returns for the new archive, and `Right` with
+///that of the old one: if both are refused, it is the one that stops [`merge_streams`](crate::merge_streams). `Write`
+///is never returned.
 pub fn lost_operations<R: Source, S: Source>(
     heap: &Heap,
     new: &mut R,

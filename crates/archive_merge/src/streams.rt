@@ -106,12 +106,11 @@ fn merge_taken<R: Source, F, B: ReadFrom<F>, W: Sink>(
 /// writes the lesser of the two, or one of two that are equal, and reads on the side or sides with it, left first. A
 /// slice that either side retired is not written, and the side or sides with it are read on as if it had been. After an
 /// end record it tests that the input ends.
-///
-/// # Errors
-/// `Left` and `Right` with the fault that `read_archive` of `archive_results` returns for that side alone; `Write` if
-///the writer failed, and no side was refused before. A record after 9,223,372,036,854,775,807 others is `OutOfMemory`
-///of the side with it, the left one if both have it, and so is a retirement for which there is no memory. In that case
-///the writer has the first `written` bytes of an archive, and no end record: its bytes are not an archive's text.
+/// # Errors `Left` and `Right` with the fault that `read_archive` of `archive_from_records` returns for that side
+///alone; `Write` if the writer failed, and no side was refused before. A record after 9,223,372,036,854,775,807 others
+///is `OutOfMemory` of the side with it, the left one if both have it, and so is a retirement for which there is no
+///memory. In that case the writer has the first `written` bytes of an archive, and no end record: its bytes are not an
+///archive's text.
 pub fn merge_streams<R: Source, S: Source, W: Sink>(
     heap: &Heap,
     left: &mut R,

@@ -141,7 +141,7 @@ impl FromRecords for Named {
 ///
 /// # Errors
 ///
-/// Those of `read_archive` of `archive_results`, in the same order and with the same offsets, without BadSlice,
+/// Those of `read_archive` of `archive_from_records`, in the same order and with the same offsets, without BadSlice,
 /// KeyMismatch, TooLarge and Covered: an entry has no slice.
 pub fn read_summary<R: Source>(heap: Heap, r: &mut R) -> Result<Summary, RecordFault>
     ensures { ReadsWhole SummaryFile (λ summary. summary) R.left R.failures r.old r.new result }

@@ -12,7 +12,7 @@ use Rattle.command_queries.specs.Frames.{frames_by_records, prints_addresses}
 use Rattle.command_queries.proofs.Answered.{symbolicated}
 use Rattle.archive_core.specs.declared.keys.SliceKey.{SliceKey}
 use Rattle.command_common.proofs.{Parts.no_others, Readers.readers_long}
-use Rattle.command_index_evidence.specs.Find.{find_by}
+use Rattle.command_given_indexes.specs.Find.{find_by}
 use Rattle.command_frames.specs.Frames.{frames_at, symbolicate_at}
 use Rattle.cli_run.specs.Queries.{IsAlone, find_of, frames_of, if_paired, index_for_each_archive, symbolicate_of}
 

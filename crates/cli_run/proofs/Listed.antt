@@ -5,7 +5,7 @@ use Rattle.command_common.specs.{Asked.prints_rows, Asked.writes_summary, Ends.E
 use Rattle.command_common.specs.{Outputs.Outs, Outputs.Writer, Outputs.out_of, Records.rows_listed, Records.summary_held}
 use Rattle.command_common.specs.Asked as asked
 use Rattle.command_common.specs.declared.faults.{CommandFault.CommandFault, Status.Status}
-use Rattle.command_index_evidence.specs.Answered.{of_first_pair, rows_at, summary_told}
+use Rattle.command_given_indexes.specs.Answered.{of_first_pair, rows_at, summary_told}
 use Rattle.cli_run.specs.Plans.{EndsAsked, EndsDeed, listed_of, summarized_of}
 
 module _ {S : Type 0} (left whole : S → Option (List ℕ)) (failures place_failures : S → ℕ) (report : Writer) (result : Result Status CommandFault) where

@@ -27,12 +27,12 @@ use Rattle.index_format.specs.declared.fault.IndexingFault.TheVariants.{Archive 
 use Rattle.index_build.specs.Index.{TellsRefusal, TellsStop, index as index_of}
 use Rattle.index_build.specs.declared.fault.MakingFault.{MakingFault}
 use Rattle.index_build.specs.declared.fault.MakingFault.TheVariants.{Archive as Refused, Write as Wrote}
-use Rattle.command_index_evidence.specs.{Indexes.IsOfOtherLength, Indexes.IsRefusedByIndex, Several.AreRefusedLater, Several.AreRefusedTogether}
-use Rattle.command_index_evidence.specs.Together.{IsFirstRefusedByIndex, IsRefusedAtPlaces}
-use Rattle.text_scripts_and_frames.specs.declared.frame.Frame.{Frame}
+use Rattle.command_given_indexes.specs.{Indexes.IsOfOtherLength, Indexes.IsRefusedByIndex, Several.AreRefusedLater, Several.AreRefusedTogether}
+use Rattle.command_given_indexes.specs.Together.{IsFirstRefusedByIndex, IsRefusedAtPlaces}
+use Rattle.text_input_files.specs.declared.frame.Frame.{Frame}
 use Rattle.command_frames.specs.Asking.{AreRefusedAsking, IsTableRefused}
 use Rattle.command_frames.specs.Frames.{frames_at, frames_by_indexes, symbolicate_at}
-use Rattle.command_index_evidence.specs.Find.{find_by}
+use Rattle.command_given_indexes.specs.Find.{find_by}
 use Rattle.command_extract.specs.{Entries.IsRefusedSlice, Extract.Extraction, Extract.Extracts, Indexed.AreRefusedBefore, Indexed.extract_at}
 use Rattle.byte_lazy_inputs.specs.declared.openings.Opening.{Opening}
 use Rattle.command_archives.specs.PassedOver.{admit_passing_as_it_comes}

@@ -17,7 +17,7 @@ use Rattle.command_archives.specs.PassedOver.{EndsPassing, NotesAdmit, Passing, 
 use Rattle.byte_lazy_inputs.specs.declared.openings.Opening.{Opening}
 use Rattle.command_archives.specs.{MergeStreams.merge_as_it_comes, Migrate.migrate_as_it_comes}
 use Rattle.command_common.specs.declared.notes.Note.{Note}
-use Rattle.command_index_evidence.specs.Summary.{summary_at}
+use Rattle.command_given_indexes.specs.Summary.{summary_at}
 use Rattle.cli_run.specs.Queries.{NotesUnderscored, extract_of, find_of, frames_of, list_of, symbolicate_of}
 use Rattle.command_queries.specs.Name.{name}
 use Rattle.archive_exchange.specs.Rehearse.{rehearse}

@@ -11,7 +11,7 @@ use Rattle.command_queries.specs.{Find.find, List.list, Name.SaysUnderscored}
 use Rattle.command_queries.specs.{Frames.frames, Symbolicate.symbolicate}
 use Rattle.command_common.specs.declared.notes.Note.{Note}
 use Rattle.command_common.specs.declared.notes.Note.TheVariants.{Retired, Missing, Underscored}
-use Rattle.command_index_evidence.specs.{Find.find_by, List.list_at}
+use Rattle.command_given_indexes.specs.{Find.find_by, List.list_at}
 use Rattle.command_frames.specs.Frames.{frames_at, symbolicate_at}
 use Rattle.command_extract.specs.{Extract.Extraction, Extract.extract, Indexed.extract_at}
 

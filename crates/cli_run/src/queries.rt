@@ -22,7 +22,7 @@ use command_common::{
     CommandFault, InputName, Note, Records, Status, Why, first_and_rest, write_report,
 };
 use command_frames::{run_frames, run_symbolicate};
-use command_index_evidence::Indexes;
+use command_given_indexes::Indexes;
 use command_queries::{answer_name, run_find, run_list};
 use heap_memory::{Heap, NoMemory};
 use uuid::Uuid;

@@ -21,7 +21,7 @@ use command_archives::{
 };
 use command_common::{CommandFault, Note, Records, Status, first_and_rest};
 use command_extract::run_extract;
-use command_index_evidence::Indexes;
+use command_given_indexes::Indexes;
 use heap_memory::Heap;
 use index_build::run_index;
 

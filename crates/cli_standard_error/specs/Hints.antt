@@ -22,12 +22,12 @@ use Rattle.cli_arguments.specs.declared.commands.Form.TheVariants as form
 use Rattle.cli_standard_error.specs.declared.file_kinds.FileKind.{FileKind}
 use Rattle.cli_standard_error.specs.declared.file_kinds.FileKind.TheVariants as kind
 use Rattle.cli_standard_error.specs.declared.flaws.Flaw.{Flaw}
-use Rattle.text_scripts_and_frames.specs.declared.frame_flaws.FrameFlaw.{FrameFlaw}
-use Rattle.text_scripts_and_frames.specs.declared.frame_flaws.FrameFlaw.TheVariants as frame
-use Rattle.text_scripts_and_frames.specs.declared.numbers.NumberFlaw.{NumberFlaw}
-use Rattle.text_scripts_and_frames.specs.declared.numbers.NumberFlaw.TheVariants.{NotDecimal, LeadingZeros, TooLarge}
-use Rattle.text_scripts_and_frames.specs.declared.script_flaws.ScriptFlaw.{ScriptFlaw}
-use Rattle.text_scripts_and_frames.specs.declared.script_flaws.ScriptFlaw.TheVariants as script
+use Rattle.text_input_files.specs.declared.frame_flaws.FrameFlaw.{FrameFlaw}
+use Rattle.text_input_files.specs.declared.frame_flaws.FrameFlaw.TheVariants as frame
+use Rattle.text_input_files.specs.declared.numbers.NumberFlaw.{NumberFlaw}
+use Rattle.text_input_files.specs.declared.numbers.NumberFlaw.TheVariants.{NotDecimal, LeadingZeros, TooLarge}
+use Rattle.text_input_files.specs.declared.script_flaws.ScriptFlaw.{ScriptFlaw}
+use Rattle.text_input_files.specs.declared.script_flaws.ScriptFlaw.TheVariants as script
 use Rattle.text_values.specs.declared.flaws.LineFlaw.{LineFlaw}
 use Rattle.text_values.specs.declared.flaws.LineFlaw.TheVariants as any_line
 

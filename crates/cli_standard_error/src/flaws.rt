@@ -6,7 +6,7 @@ ghost use Rattle.cli_standard_error.specs.Hints.{faulty_line, line_flaw_text};
 use cli_arguments::{Form, form_text};
 use command_common::Why;
 use std::fmt;
-use text_scripts_and_frames::{FrameFlaw, NumberFlaw, ScriptFlaw};
+use text_input_files::{FrameFlaw, NumberFlaw, ScriptFlaw};
 use text_values::LineFlaw;
 
 /// The flaw of a line.

@@ -9,10 +9,10 @@ use Rattle.std.proofs.lemmas.List.{length-map, append-nil, map-append}
 use Rattle.archive_core.specs.Content.{Operations, IsMade, changes, content_of, covering, joined, with_record, with_records}
 use Rattle.archive_core.specs.Record.{admission_record}
 use Rattle.archive_core.proofs.Made.{alike_insert, bytes_same, contains_made, joined_made_right, made_alike, made_is_alike}
-use Rattle.archive_file_admission.specs.File.{is_admissible, slice_in, parts, admissible, IsAcceptedFile}
-use Rattle.archive_file_admission.specs.Take.{admitted, taken_of, taken_rows}
-use Rattle.archive_file_admission.specs.declared.taken.Taken.{Taken}
-use Rattle.archive_file_admission.proofs.RowPlaces.{rows_number}
+use Rattle.archive_image_admission.specs.File.{is_admissible, slice_in, parts, admissible, IsAcceptedFile}
+use Rattle.archive_image_admission.specs.Take.{admitted, taken_of, taken_rows}
+use Rattle.archive_image_admission.specs.declared.taken.Taken.{Taken}
+use Rattle.archive_image_admission.proofs.RowPlaces.{rows_number}
 use Rattle.text_reports.specs.declared.rows.AdmitRow.{AdmitRow}
 use Rattle.byte_lazy_inputs.specs.declared.openings.Opening.{Opening}
 use Rattle.command_archives.specs.Admit.{admit_rows, file_rows, images_of, MakesAdmitted, admit_as_it_comes}
@@ -30,7 +30,7 @@ use Rattle.command_common.specs.declared.notes.Note.{Note}
 use Rattle.command_archives.proofs.Joined.{join_with_nothing}
 use Rattle.std.proofs.lemmas.Grind.{flat_map-append}
 use Rattle.std.specs.List.{AllByRecursion, AllZip}
-use Rattle.archive_file_admission.proofs.Rows.{admitted-append}
+use Rattle.archive_image_admission.proofs.Rows.{admitted-append}
 use Rattle.command_common.specs.Inputs.{Reader, Holds, IsAccepted, EachKnown, EachUnfailed, IsFileRefused, IsFirstRefused, IsKnown}
 use Rattle.command_common.proofs.Readers.{pairs_more, pairs_long}
 use Rattle.join_core.specs.Listing.{listing}

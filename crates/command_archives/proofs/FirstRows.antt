@@ -16,7 +16,7 @@ use Rattle.archive_core.proofs.Made.{bytes_same}
 use Rattle.command_archives.specs.InnerArriving.{AreFirstRows, adds, updated_row, updated_rows}
 use Rattle.std.proofs.lemmas.Bool.{cases_Bool, cases_eq, cases_lt}
 use Rattle.std.proofs.lemmas.List.{ext_get_or, get_or-set_other, get_or-set_same, length-set}
-use Rattle.archive_file_admission.specs.declared.taken.Taken.TheVariants.{Skipped}
+use Rattle.archive_image_admission.specs.declared.taken.Taken.TheVariants.{Skipped}
 
 -- ---- lists
 

@@ -4,10 +4,10 @@ use Rattle.std.proofs.Common.{◌≡◌, ◌<◌, ℕ, Bool, ◌||◌, List, [],
 use Rattle.std.specs.Prelude.{if◌then◌else◌, OnOk}
 use Rattle.std.specs.List.{AllByRecursion, AllZip, list_any}
 use Rattle.archive_core.specs.Content.{Operations, changes}
-use Rattle.archive_file_admission.specs.File.{IsAcceptedFile, IsTakeFault, admissible}
-use Rattle.archive_file_admission.specs.Take.{admitted}
-use Rattle.archive_file_admission.specs.declared.fault.TakeFault.{TakeFault}
-use Rattle.archive_file_admission.specs.declared.fault.TakeFault.TheVariants.{OutOfMemory as TakeOutOfMemory}
+use Rattle.archive_image_admission.specs.File.{IsAcceptedFile, IsTakeFault, admissible}
+use Rattle.archive_image_admission.specs.Take.{admitted}
+use Rattle.archive_image_admission.specs.declared.fault.TakeFault.{TakeFault}
+use Rattle.archive_image_admission.specs.declared.fault.TakeFault.TheVariants.{OutOfMemory as TakeOutOfMemory}
 use Rattle.byte_device.specs.Devices.{FailedIn, most_failures}
 use Rattle.byte_lazy_inputs.specs.declared.openings.Opening.{Opening}
 use Rattle.command_common.specs.declared.faults.CommandFault.{CommandFault}

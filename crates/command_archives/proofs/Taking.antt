@@ -9,9 +9,9 @@ use Rattle.archive_core.specs.declared.keys.Digest.{Digest}
 use Rattle.archive_core.specs.Content.{Operations, changes}
 use Rattle.archive_core.specs.Record.{admission_record}
 use Rattle.archive_core.specs.Valid.{key_of}
-use Rattle.archive_file_admission.specs.Take.{admitted, taken_of}
-use Rattle.archive_file_admission.specs.declared.taken.Taken.TheVariants.{Added, Known, Skipped}
-use Rattle.archive_file_admission.proofs.Rows.{row_of}
+use Rattle.archive_image_admission.specs.Take.{admitted, taken_of}
+use Rattle.archive_image_admission.specs.declared.taken.Taken.TheVariants.{Added, Known, Skipped}
+use Rattle.archive_image_admission.proofs.Rows.{row_of}
 use Rattle.text_reports.specs.declared.rows.AdmitRow.{AdmitRow}
 use Rattle.command_archives.specs.Admit.{file_rows}
 use Rattle.command_archives.specs.PassedOver.{part_rows}

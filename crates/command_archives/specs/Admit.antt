@@ -2,9 +2,9 @@
 use Rattle.std.specs.Prelude.{◌≡◌, ℕ, ◌+◌, List, [], ◌∷◌, ◌++◌}
 use Rattle.std.specs.List.{AllByRecursion, AllZip, flat_map}
 use Rattle.archive_core.specs.Content.{Operations, IsContent}
-use Rattle.archive_file_admission.specs.File.{parts, admissible, IsAcceptedFile}
-use Rattle.archive_file_admission.specs.Take.{admitted, taken_rows}
-use Rattle.archive_file_admission.specs.declared.taken.Taken.{Taken}
+use Rattle.archive_image_admission.specs.File.{parts, admissible, IsAcceptedFile}
+use Rattle.archive_image_admission.specs.Take.{admitted, taken_rows}
+use Rattle.archive_image_admission.specs.declared.taken.Taken.{Taken}
 use Rattle.text_reports.specs.Report.{admit_lines}
 use Rattle.command_common.specs.declared.faults.InputName.TheVariants.{File}
 use Rattle.text_reports.specs.declared.rows.AdmitRow.{AdmitRow}

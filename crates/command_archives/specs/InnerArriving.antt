@@ -9,10 +9,10 @@ use Rattle.std.specs.FinSet as set
 use Rattle.join_core.specs.Listing.{listing}
 use Rattle.archive_core.specs.Content.{Operations}
 use Rattle.archive_core.specs.Record.{admission_record}
-use Rattle.archive_file_admission.specs.File.{parts, slice_in}
-use Rattle.archive_file_admission.specs.Take.{admitted, taken_of}
-use Rattle.archive_file_admission.specs.declared.taken.Taken.{Taken}
-use Rattle.archive_file_admission.specs.declared.taken.Taken.TheVariants.{Added, Known, Skipped}
+use Rattle.archive_image_admission.specs.File.{parts, slice_in}
+use Rattle.archive_image_admission.specs.Take.{admitted, taken_of}
+use Rattle.archive_image_admission.specs.declared.taken.Taken.{Taken}
+use Rattle.archive_image_admission.specs.declared.taken.Taken.TheVariants.{Added, Known, Skipped}
 use Rattle.byte_lazy_inputs.specs.declared.openings.Opening.{Opening}
 use Rattle.command_common.specs.declared.faults.CommandFault.{CommandFault}
 use Rattle.command_common.specs.declared.faults.Status.{Status}

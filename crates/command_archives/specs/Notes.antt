@@ -9,8 +9,8 @@ use Rattle.archive_core.specs.Record.{retirement_record}
 use Rattle.archive_core.specs.Valid.{key_of}
 use Rattle.archive_core.specs.declared.keys.Digest.{Digest}
 use Rattle.archive_core.specs.declared.keys.SliceKey.{SliceKey}
-use Rattle.archive_file_admission.specs.File.{IsAcceptedFile}
-use Rattle.archive_file_admission.specs.Take.{admitted}
+use Rattle.archive_image_admission.specs.File.{IsAcceptedFile}
+use Rattle.archive_image_admission.specs.Take.{admitted}
 use Rattle.command_common.specs.Inputs.{Holds, HoldsArchive, Reader}
 use Rattle.command_archives.specs.Admit.{images_of}
 use Rattle.command_common.specs.declared.notes.Note.{Note}

@@ -3,9 +3,9 @@ use Rattle.std.specs.Prelude.{◌≡◌, ◌≢◌, ℕ, ◌+◌, ◌<◌, Bool,
 use Rattle.std.specs.FinSet as set
 use Rattle.std.specs.List.{AllByRecursion, AllZip, flat_map}
 use Rattle.archive_core.specs.Content.{Operations, IsContent}
-use Rattle.archive_file_admission.specs.File.{parts, admissible, IsAcceptedFile}
-use Rattle.archive_file_admission.specs.Take.{admitted, taken_rows}
-use Rattle.archive_file_admission.specs.declared.taken.Taken.{Taken}
+use Rattle.archive_image_admission.specs.File.{parts, admissible, IsAcceptedFile}
+use Rattle.archive_image_admission.specs.Take.{admitted, taken_rows}
+use Rattle.archive_image_admission.specs.declared.taken.Taken.{Taken}
 use Rattle.byte_device.specs.Devices.{most_failures}
 use Rattle.byte_lazy_inputs.specs.declared.openings.Opening.{Opening}
 use Rattle.byte_lazy_inputs.specs.declared.openings.Opening.TheVariants.{Fine, Refused as NotOpened, OutOfMemory}

@@ -4,7 +4,7 @@ ghost use Rattle.std.specs.Prelude.{slice_index_or, slice_set};
 ghost use Rattle.std.specs.FinSet as set;
 ghost use Rattle.join_core.specs.Listing.{listing};
 ghost use Rattle.archive_core.specs.Record.{admission_record};
-ghost use Rattle.archive_file_admission.specs.Take.{admitted, taken_of};
+ghost use Rattle.archive_image_admission.specs.Take.{admitted, taken_of};
 ghost use Rattle.archive_merge.specs.Arrivals.{is_new};
 ghost use Rattle.text_reports.specs.declared.rows.AdmitRow.{AdmitRow};
 ghost use Rattle.command_archives.specs.declared.file_rows.FileRow.{FileRow};
@@ -16,7 +16,7 @@ ghost use Rattle.command_archives.specs.PassedOver.{part_rows};
 
 use crate::file_rows::FileRow;
 use archive_core::{Archive, Slice};
-use archive_file_admission::Taken;
+use archive_image_admission::Taken;
 use archive_index::PlainArchive;
 use archive_merge::Arrival;
 use command_common::Why;

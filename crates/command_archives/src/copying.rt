@@ -136,10 +136,8 @@ fn end_copy<R: Source, W: Sink>(
 /// Writes the archive of those operations of the input whose entries the summary does not have, in the memory of one
 /// record and of 57 bytes for each retirement, and returns its sizes. Each slice is checked and hashed once, and none
 /// is copied.
-///
-/// # Errors
-/// `Left` with the fault of `read_archive` of `archive_results`; `Write` if the writer failed. The written bytes are
-///then a beginning of an archive.
+/// # Errors `Left` with the fault of `read_archive` of `archive_from_records`; `Write` if the writer failed. The
+///written bytes are then a beginning of an archive.
 pub fn copy_unnamed<R: Source, W: Sink>(
     heap: Heap,
     summary: &Summary,

@@ -8,7 +8,7 @@ use Rattle.archive_core.specs.Part.{AreAlikeUnder}
 use Rattle.archive_core.specs.Record.{admission_record, retirement_record}
 use Rattle.archive_core.specs.declared.keys.SliceKey.{SliceKey}
 use Rattle.archive_core.proofs.Picked.{admission_under, alike_back, retirement_under}
-use Rattle.archive_results.specs.Keys.{AnswersAs}
+use Rattle.archive_from_records.specs.Keys.{AnswersAs}
 
 module _ (o p : Operations) (key : SliceKey) (same : AreAlikeUnder (key_bytes key) o p) where
   whole : key_bytes key ≡ key_bytes key ++ []

@@ -17,7 +17,7 @@ use Rattle.archive_core.proofs.Made.{contains_made, joined_content}
 use Rattle.archive_core.proofs.Picked.{part_alike}
 use Rattle.archive_core.specs.declared.keys.SliceKey.{SliceKey}
 use Rattle.archive_core.proofs.Members.{in_rest}
-use Rattle.archive_results.specs.Keys.{first_key}
+use Rattle.archive_from_records.specs.Keys.{first_key}
 use Rattle.command_common.proofs.Archives.{each_archive, hold_more}
 use Rattle.command_common.proofs.Readers.{all_more, none_failed, none_touched}
 use Rattle.command_common.specs.Archives.{AreRefused, AreUnfailed, HoldTogether, ReadsTogether, further_name, merged}

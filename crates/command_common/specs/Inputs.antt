@@ -14,15 +14,15 @@ use Rattle.archive_records.specs.declared.kind.TextKind.TheVariants.{Archive as 
 use Rattle.archive_records.specs.declared.kind.TextKind.TheVariants.{Operations as OperationsFile}
 use Rattle.archive_records.specs.declared.kind.TextKind.TheVariants.{Summary as SummaryFile}
 use Rattle.index_format.specs.declared.index_fault.IndexFaultKind.TheVariants.{Device as IndexDevice}
-use Rattle.archive_file_admission.specs.File.{IsAcceptedFile, IsTakeFault}
-use Rattle.archive_file_admission.specs.declared.fault.TakeFault.{TakeFault}
-use Rattle.archive_file_admission.specs.declared.fault.TakeFault.TheVariants.{OutOfMemory as TakeOutOfMemory}
+use Rattle.archive_image_admission.specs.File.{IsAcceptedFile, IsTakeFault}
+use Rattle.archive_image_admission.specs.declared.fault.TakeFault.{TakeFault}
+use Rattle.archive_image_admission.specs.declared.fault.TakeFault.TheVariants.{OutOfMemory as TakeOutOfMemory}
 use Rattle.text_values.specs.Lines.{line_at}
-use Rattle.text_scripts_and_frames.specs.FrameFlaws.{frame_flaw}
-use Rattle.text_scripts_and_frames.specs.Frames.{frames_of}
-use Rattle.text_scripts_and_frames.specs.declared.frame.Frame.{Frame}
-use Rattle.text_scripts_and_frames.specs.ScriptFlaws.{script_flaw}
-use Rattle.text_scripts_and_frames.specs.Script.{script_of}
+use Rattle.text_input_files.specs.FrameFlaws.{frame_flaw}
+use Rattle.text_input_files.specs.Frames.{frames_of}
+use Rattle.text_input_files.specs.declared.frame.Frame.{Frame}
+use Rattle.text_input_files.specs.ScriptFlaws.{script_flaw}
+use Rattle.text_input_files.specs.Script.{script_of}
 use Rattle.command_common.specs.declared.faults.CommandFault.{CommandFault}
 use Rattle.command_common.specs.declared.faults.CommandFault.TheVariants.{Input, Output, Report, OutOfMemory}
 use Rattle.command_common.specs.declared.faults.InputName.{InputName}

@@ -1,13 +1,13 @@
 //! The results of commands, and the faults of refused ones, with the text of each fault.
 
-use archive_file_admission::TakeFault;
+use archive_image_admission::TakeFault;
 use archive_records::RecordFault;
 use index_format::IndexFault;
 use std::alloc::{AllocError, AllocFailed};
 use std::error::Error;
 use std::fmt::{self, Display};
+use text_input_files::{FrameFlaw, ScriptFault, ScriptFlaw};
 use text_reports::Text;
-use text_scripts_and_frames::{FrameFlaw, ScriptFault, ScriptFlaw};
 
 /// The status of a command that was not refused.
 #[derive(Clone, Copy, Debug, PartialEq, Eq)]

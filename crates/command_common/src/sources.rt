@@ -5,10 +5,10 @@ ghost use Rattle.archive_core.specs.Lists.{IsList};
 ghost use Rattle.archive_core.specs.Summary.{summary};
 ghost use Rattle.archive_records.specs.declared.fault.RecordFaultKind.TheVariants.{OutOfMemory as RecordOutOfMemory};
 ghost use Rattle.archive_records.specs.Entry.{AreEntries};
-ghost use Rattle.archive_results.specs.Keys.{AreInOrder};
+ghost use Rattle.archive_from_records.specs.Keys.{AreInOrder};
 ghost use Rattle.archive_records.specs.Text.{IsOperationsText, summary_text};
-ghost use Rattle.text_scripts_and_frames.specs.Frames.{frames_of};
-ghost use Rattle.text_scripts_and_frames.specs.Script.{acts, script_of};
+ghost use Rattle.text_input_files.specs.Frames.{frames_of};
+ghost use Rattle.text_input_files.specs.Script.{acts, script_of};
 ghost use Rattle.command_common.specs.declared.faults.CommandFault.TheVariants.{Input};
 ghost use Rattle.command_common.specs.declared.faults.Why.TheVariants.{Record};
 ghost use Rattle.command_common.specs.Inputs.{Gives, Holds, HoldsArchive, HoldsContent, HoldsPart, IsArchive};
@@ -19,14 +19,14 @@ ghost use Rattle.command_common.specs.Inputs.{reader};
 
 use crate::faults::{CommandFault, InputName, Why};
 use archive_core::{Archive, FindRow, Operation};
-use archive_records::{RecordFault, RecordFaultKind, Summary, read_summary};
-use archive_results::{
+use archive_from_records::{
     Questions, Selects, answer_by_key, list_rows, read_archive, read_ops, read_part, summarize,
     test_archive,
 };
+use archive_records::{RecordFault, RecordFaultKind, Summary, read_summary};
 use byte_device::{ReadFault, Source, read_to_end};
 use heap_memory::Heap;
-use text_scripts_and_frames::{
+use text_input_files::{
     Frame, FramesError, Script, ScriptError, frame_flaw, read_frames, read_script, script_flaw,
 };
 use text_values::line_at;

@@ -18,9 +18,9 @@ use Rattle.command_common.proofs.Parts.{refusal_of}
 use Rattle.index_lookup.specs.Among.{AreTied, EntryAt, IsAmong}
 use Rattle.index_lookup.specs.Named.{IsRowAt}
 use Rattle.index_lookup.specs.declared.named.NamedSlice.{NamedSlice}
-use Rattle.command_index_evidence.specs.Several.{AreRefusedLater, AreUnfailedTogether, HoldTogether}
-use Rattle.command_index_evidence.specs.Together.{AreAllKept, AreLater, AreReadWith, HoldNamed, IsFirstRefusedAtPlaces, IsFirstRefusedByIndex, IsKept, IsOneOf}
-use Rattle.command_index_evidence.proofs.Groups.{as_many, later_readers, one_of, read_earlier, unfailed_through}
+use Rattle.command_given_indexes.specs.Several.{AreRefusedLater, AreUnfailedTogether, HoldTogether}
+use Rattle.command_given_indexes.specs.Together.{AreAllKept, AreLater, AreReadWith, HoldNamed, IsFirstRefusedAtPlaces, IsFirstRefusedByIndex, IsKept, IsOneOf}
+use Rattle.command_given_indexes.proofs.Groups.{as_many, later_readers, one_of, read_earlier, unfailed_through}
 use Rattle.command_extract.specs.Entries.{AreUnchosen, IsChosen, StopsSlice}
 use Rattle.command_extract.specs.Evidence.{Chooses, IsChosenFor, IsStoppedSending, LacksSlices, Sends, StopsBefore}
 use Rattle.command_extract.specs.Extract.{Extraction}

@@ -17,7 +17,7 @@ use Rattle.command_common.specs.declared.faults.Why.{Why}
 use Rattle.command_common.specs.declared.faults.Why.TheVariants.{Stale}
 use Rattle.index_lookup.specs.Among.{AreAnsweringAmong, EntryAt}
 use Rattle.index_lookup.specs.Named.{LivesAmong, digest_at, size_at}
-use Rattle.command_index_evidence.specs.Indexes.{IsUnreadAt}
+use Rattle.command_given_indexes.specs.Indexes.{IsUnreadAt}
 
 -- the entry is that of the wanted slice: the only one that answers; or a live one under the key with the digest
 abbrev pub IsChosen : SliceKey → Option Digest → List (List (List ℕ)) → EntryAt → Type 0

@@ -15,8 +15,8 @@ use Rattle.command_common.specs.declared.faults.Why.{Why}
 use Rattle.index_lookup.specs.Among.{AreTied, EntryAt}
 use Rattle.index_lookup.specs.Named.{IsRowAt, Names}
 use Rattle.index_lookup.specs.declared.named.NamedSlice.{NamedSlice}
-use Rattle.command_index_evidence.specs.Several.{AreRefusedLater, AreUnfailedTogether, HoldTogether}
-use Rattle.command_index_evidence.specs.Together.{AreAllKept, AreLater, AreReadWith, IsFirstRefusedByIndex, IsOneOf}
+use Rattle.command_given_indexes.specs.Several.{AreRefusedLater, AreUnfailedTogether, HoldTogether}
+use Rattle.command_given_indexes.specs.Together.{AreAllKept, AreLater, AreReadWith, IsFirstRefusedByIndex, IsOneOf}
 use Rattle.command_extract.specs.Entries.{AreUnchosen, HoldsSlice, IsChosen, StopsSlice}
 use Rattle.command_extract.specs.Extract.{Extraction, Held, MakesNone, MakesSlice}
 use Rattle.command_extract.specs.Kept.{KeepsWanted}

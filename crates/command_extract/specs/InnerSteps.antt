@@ -13,7 +13,7 @@ use Rattle.command_common.specs.declared.faults.CommandFault.{CommandFault}
 use Rattle.command_common.specs.declared.faults.CommandFault.TheVariants.{Output, OutOfMemory}
 use Rattle.command_common.specs.declared.faults.Status.{Status}
 use Rattle.command_common.specs.declared.faults.Status.TheVariants.{Partial}
-use Rattle.command_index_evidence.specs.Together.{HoldNamed, IsFirstRefusedAtPlaces}
+use Rattle.command_given_indexes.specs.Together.{HoldNamed, IsFirstRefusedAtPlaces}
 use Rattle.command_extract.specs.Kept.{IsChosenIn}
 use Rattle.command_extract.specs.Wanted.{AreUndecided, IsWanted, slice_row}
 use Rattle.command_extract.specs.declared.choice.Choice.{Choice}

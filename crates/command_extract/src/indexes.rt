@@ -17,7 +17,7 @@ use crate::sending::send_from;
 use archive_core::{Archive, Digest, SliceKey};
 use byte_device::{Placed, Sink};
 use command_common::{CommandFault, bytes_of};
-use command_index_evidence::{Indexes, KeyPrefix, read_indexes, read_prefixes};
+use command_given_indexes::{Indexes, KeyPrefix, read_indexes, read_prefixes};
 use heap_memory::Heap;
 use index_format::Index;
 use index_lookup::NamedSlice;

@@ -11,7 +11,7 @@ use crate::choosing::choose_in;
 use crate::evidence::SliceEvidence;
 use crate::kept::{Kept, send_kept};
 use archive_core::{Archive, Digest, SliceKey};
-use archive_results::Under;
+use archive_from_records::Under;
 use byte_device::{Sink, Source};
 use command_common::{CommandFault, Records, bytes_of, first_and_rest, read_parts};
 use heap_memory::Heap;

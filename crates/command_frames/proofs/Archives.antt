@@ -15,9 +15,9 @@ use Rattle.command_common.specs.Inputs.{EachUnfailed, EachUntouched, Reader, Unf
 use Rattle.command_common.specs.declared.faults.InputName.{InputName}
 use Rattle.command_common.specs.declared.faults.Why.{Why}
 use Rattle.command_common.specs.declared.faults.Why.TheVariants.{Stale}
-use Rattle.command_index_evidence.specs.Prefixes.{AreNamedUnder, IsReadFor, IsStaleFor, IsStaleUnder}
-use Rattle.command_index_evidence.specs.Indexes.{IsUnreadAt}
-use Rattle.command_index_evidence.specs.Together.{AreAllKept, AreNamedBy, HaveSameBytes, HoldNamed, IsFirstRefusedAtPlaces, IsRefusedAtPlaces}
+use Rattle.command_given_indexes.specs.Prefixes.{AreNamedUnder, IsReadFor, IsStaleFor, IsStaleUnder}
+use Rattle.command_given_indexes.specs.Indexes.{IsUnreadAt}
+use Rattle.command_given_indexes.specs.Together.{AreAllKept, AreNamedBy, HaveSameBytes, HoldNamed, IsFirstRefusedAtPlaces, IsRefusedAtPlaces}
 use Rattle.command_frames.specs.Asking.{IsAnsweredBySlices, is_stale_entry}
 use Rattle.command_frames.specs.Refusals.{IsStaleAt}
 

@@ -13,7 +13,7 @@ use Rattle.archive_core.specs.Lookup.{AnswerRecord}
 use Rattle.archive_core.specs.declared.keys.SliceKey.{SliceKey}
 use Rattle.archive_core.specs.declared.lookup.Where.{Where}
 use Rattle.dwarf_source_frames.specs.Frames.{FrameRecord}
-use Rattle.text_scripts_and_frames.specs.declared.frame.Frame.{Frame}
+use Rattle.text_input_files.specs.declared.frame.Frame.{Frame}
 use Rattle.command_common.specs.Inputs.{AreRead, Reader, readers, EachUnfailed, IsRefusal}
 use Rattle.command_common.specs.declared.faults.CommandFault.{CommandFault}
 use Rattle.command_common.specs.declared.faults.CommandFault.TheVariants.{Input, OutOfMemory}
@@ -24,9 +24,9 @@ use Rattle.index_lookup.specs.Among.{EntryAt}
 use Rattle.index_lookup.specs.AmongAsked.{BlamesAmong, HasText, HaveTexts, IsFirstAmong, IsUntoldAmong, each_known}
 use Rattle.index_lookup.specs.declared.fault.AnswerFault.{AnswerFault}
 use Rattle.index_lookup.specs.declared.fault.AnswerFault.TheVariants as answer
-use Rattle.command_index_evidence.specs.Several.{AreRefusedLater, AreUnfailedTogether}
-use Rattle.command_index_evidence.specs.Together.{AreAllKept, AreReadWith, IsKept}
-use Rattle.command_index_evidence.proofs.Groups.{later_readers, read_earlier, unfailed_through}
+use Rattle.command_given_indexes.specs.Several.{AreRefusedLater, AreUnfailedTogether}
+use Rattle.command_given_indexes.specs.Together.{AreAllKept, AreReadWith, IsKept}
+use Rattle.command_given_indexes.proofs.Groups.{later_readers, read_earlier, unfailed_through}
 use Rattle.command_queries.specs.Symbolicate.{asked_of}
 use Rattle.command_frames.specs.Asking.{AreAnsweredBelow, AreGiven, AreRefusedAsking, AreUnread, AreUntold, IsAnsweredAt, IsAnsweredByTables}
 use Rattle.command_frames.specs.Asking.{HavePlaces, IsChanged, IsLineless, IsTableRefused, IsUnreadTable, keys_of}

@@ -4,7 +4,7 @@ use Rattle.archive_core.specs.Lookup.{AnswerRecord}
 use Rattle.archive_core.specs.declared.keys.SliceKey.{SliceKey}
 use Rattle.archive_core.specs.declared.lookup.Where.{Where}
 use Rattle.dwarf_source_frames.specs.Frames.{FrameRecord}
-use Rattle.text_scripts_and_frames.specs.declared.frame.Frame.{Frame}
+use Rattle.text_input_files.specs.declared.frame.Frame.{Frame}
 use Rattle.command_common.specs.declared.faults.Status.{Status}
 use Rattle.command_queries.specs.Frames.{TellFrames}
 use Rattle.command_frames.specs.Frames.{TellFramesWith}

@@ -12,8 +12,8 @@ use Rattle.command_common.specs.declared.faults.CommandFault.{CommandFault}
 use Rattle.command_common.specs.declared.faults.CommandFault.TheVariants.{Input, Output, OutOfMemory, Report}
 use Rattle.command_common.specs.declared.faults.InputName.{InputName}
 use Rattle.command_common.specs.declared.faults.Why.{Why}
-use Rattle.command_index_evidence.specs.Together.{AreAllKept, IsKept}
-use Rattle.command_index_evidence.proofs.Groups.{unfailed_through}
+use Rattle.command_given_indexes.specs.Together.{AreAllKept, IsKept}
+use Rattle.command_given_indexes.proofs.Groups.{unfailed_through}
 use Rattle.index_lookup.specs.AmongAsked.{HaveTexts, each_known}
 use Rattle.command_frames.specs.Asking.{IsAnsweredAt, IsAnsweredBySlices, IsAnsweredByTables}
 use Rattle.command_frames.specs.InnerAsking.{AsksKeys, AsksSlices, IsKeyFault, IsUnreadBy, IsUntoldBy, NoneFailed}

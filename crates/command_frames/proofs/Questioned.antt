@@ -14,9 +14,9 @@ use Rattle.archive_core.specs.Part.{is_under}
 use Rattle.archive_core.specs.declared.keys.SliceKey.{SliceKey}
 use Rattle.archive_core.specs.declared.lookup.Where.{Where}
 use Rattle.archive_core.proofs.Members.{in_map}
-use Rattle.archive_results.specs.Keys.{AnswersAs, first_key}
+use Rattle.archive_from_records.specs.Keys.{AnswersAs, first_key}
 use Rattle.dwarf_source_frames.specs.Frames.{FrameRecord}
-use Rattle.text_scripts_and_frames.specs.declared.frame.Frame.{Frame}
+use Rattle.text_input_files.specs.declared.frame.Frame.{Frame}
 use Rattle.command_common.specs.declared.faults.Status.{Status}
 use Rattle.command_queries.specs.Frames.{TellsFrames}
 use Rattle.command_queries.specs.SourceFrames.{IsAnswerWithFrames}

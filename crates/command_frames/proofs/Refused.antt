@@ -16,7 +16,7 @@ use Rattle.archive_core.proofs.Members.{in_cons, in_front, in_map, to_map}
 use Rattle.dwarf_source_frames.specs.Frames.{FrameRecord}
 use Rattle.command_queries.specs.Places.{IsPlaceTold, address_in}
 use Rattle.command_queries.specs.Symbolicate.{Answered, answers_text, asked_of, is_symbol}
-use Rattle.text_scripts_and_frames.specs.declared.frame.Frame.{Frame}
+use Rattle.text_input_files.specs.declared.frame.Frame.{Frame}
 use Rattle.command_common.specs.declared.faults.InputName.{InputName}
 use Rattle.command_common.specs.declared.faults.Status.{Status}
 use Rattle.command_common.specs.declared.faults.Status.TheVariants.{Done, Partial, SomeRefused as RefusedStatus}

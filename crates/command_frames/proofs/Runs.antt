@@ -29,9 +29,9 @@ use Rattle.archive_core.specs.declared.lookup.Where.TheVariants.{File, Loaded}
 use Rattle.archive_core.proofs.Made.{bytes_same}
 use Rattle.archive_core.proofs.Records.{one_key}
 use Rattle.archive_core.proofs.Members.{ascending_by, ascending_finer, ascending_map, in_map, to_map}
-use Rattle.archive_results.specs.Keys.{AreInOrder as AreKeysInOrder}
+use Rattle.archive_from_records.specs.Keys.{AreInOrder as AreKeysInOrder}
 use Rattle.command_queries.specs.Symbolicate.{asked_of}
-use Rattle.text_scripts_and_frames.specs.declared.frame.Frame.{Frame}
+use Rattle.text_input_files.specs.declared.frame.Frame.{Frame}
 use Rattle.command_common.proofs.Readers.{all_more, all_take}
 use Rattle.command_frames.specs.Asking.{HavePlaces, keys_of}
 use Rattle.command_frames.specs.declared.places.AskedKey.{AskedKey}

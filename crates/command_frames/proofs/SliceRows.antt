@@ -25,8 +25,8 @@ use Rattle.index_format.specs.Entry.{dsym_byte, tag_byte}
 use Rattle.index_lookup.specs.Among.{all_of, covers, has_live_companion, lives_under, subject_of}
 use Rattle.index_lookup.specs.Told.{admits_under, is_companion}
 use Rattle.command_queries.specs.Slices.{AreUuidsOf}
-use Rattle.command_index_evidence.specs.Rows.{AreRowsAmong, IsEntryRow, is_under_one}
-use Rattle.command_index_evidence.proofs.RowsAmong.{rows_both, rows_either}
+use Rattle.command_given_indexes.specs.Rows.{AreRowsAmong, IsEntryRow, is_under_one}
+use Rattle.command_given_indexes.proofs.RowsAmong.{rows_both, rows_either}
 use Rattle.command_frames.specs.Slices.{IsAnsweringEntryRow}
 
 -- ---- what an entry says, and its row

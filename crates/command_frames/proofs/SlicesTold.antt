@@ -26,8 +26,8 @@ use Rattle.archive_core.proofs.Made.{bytes_same, joined_content}
 use Rattle.archive_core.proofs.Members.{in_front, in_map, in_rest, pairs_more, to_map}
 use Rattle.archive_core.proofs.Compare.{length_key_bytes}
 use Rattle.archive_core.proofs.Picked.{finds_alike}
-use Rattle.archive_results.specs.Keys.{AnswersAs}
-use Rattle.text_scripts_and_frames.specs.declared.frame.Frame.{Frame}
+use Rattle.archive_from_records.specs.Keys.{AnswersAs}
+use Rattle.text_input_files.specs.declared.frame.Frame.{Frame}
 use Rattle.text_reports.specs.Slices.{AnswersAmong, TellsSlices}
 use Rattle.text_reports.proofs.Kept.{neighbours}
 use Rattle.command_common.specs.declared.faults.Status.{Status}

@@ -6,7 +6,7 @@ use Rattle.byte_device.specs.Devices.{FailedIn}
 use Rattle.command_common.specs.Inputs.{Reader, reader, readers, EachUnfailed}
 use Rattle.index_lookup.specs.Among.{AreAnsweringAmong, EntryAt}
 use Rattle.index_lookup.specs.AmongAsked.{AreThere, HaveTexts, each_known}
-use Rattle.command_index_evidence.specs.Together.{AreAllKept, AreReadWith}
+use Rattle.command_given_indexes.specs.Together.{AreAllKept, AreReadWith}
 use Rattle.command_frames.specs.Asking.{AreGiven, FailsAlone}
 
 -- the devices are there in which entries stand

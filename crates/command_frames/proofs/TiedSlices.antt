@@ -13,8 +13,8 @@ use Rattle.command_common.specs.declared.faults.CommandFault.TheVariants.{Input,
 use Rattle.command_queries.specs.Places.{IsPlaceTold}
 use Rattle.command_queries.specs.SourceFrames.{IsAnswerWithFrames}
 use Rattle.command_queries.specs.declared.places.PlaceAnswer.{PlaceAnswer}
-use Rattle.command_index_evidence.specs.Together.{AreAllKept, HaveSameBytes, HoldNamed, IsFirstRefusedAtPlaces}
-use Rattle.command_index_evidence.proofs.Groups.{kept_none}
+use Rattle.command_given_indexes.specs.Together.{AreAllKept, HaveSameBytes, HoldNamed, IsFirstRefusedAtPlaces}
+use Rattle.command_given_indexes.proofs.Groups.{kept_none}
 use Rattle.index_lookup.specs.Among.{AreTied}
 use Rattle.command_frames.specs.Asking.{IsAnsweredBySlices, is_stale_entry}
 use Rattle.command_frames.specs.InnerAsking.{AsksSlices}

@@ -15,7 +15,7 @@ use Rattle.archive_core.specs.declared.lookup.Where.{Where}
 use Rattle.dwarf_source_frames.specs.Frames.{FrameRecord}
 use Rattle.command_queries.specs.SourceFrames.{IsAnswerWithFrames}
 use Rattle.command_queries.specs.Symbolicate.{asked_of}
-use Rattle.text_scripts_and_frames.specs.declared.frame.Frame.{Frame}
+use Rattle.text_input_files.specs.declared.frame.Frame.{Frame}
 use Rattle.index_format.specs.declared.index_fault.IndexFaultKind.TheVariants.{Device}
 use Rattle.index_lookup.specs.Among.{AreAnsweringAmong, AreTied, EntryAt}
 use Rattle.index_lookup.specs.AmongAsked.{IsAskedAt, IsDamagedAt, IsLinelessAt, TellBefore}
@@ -27,8 +27,8 @@ use Rattle.command_common.specs.declared.faults.Why.{Why}
 use Rattle.command_common.specs.declared.faults.Why.TheVariants.{CannotOpen, Device as CannotRead, Record, Take, Script}
 use Rattle.command_common.specs.declared.faults.Why.TheVariants.{BadFrame, OldArchive, TooLong, Index as IndexFaulty}
 use Rattle.command_common.specs.declared.faults.Why.TheVariants.{Stale, Damaged, NoLines, NoArchive, NoIndex}
-use Rattle.command_index_evidence.specs.Several.{AreRefusedLater}
-use Rattle.command_index_evidence.specs.Together.{AreReadWith, HoldNamed, IsFirstRefusedByIndex}
+use Rattle.command_given_indexes.specs.Several.{AreRefusedLater}
+use Rattle.command_given_indexes.specs.Together.{AreReadWith, HoldNamed, IsFirstRefusedByIndex}
 
 -- ---- by tables
 

@@ -10,14 +10,14 @@ use Rattle.archive_core.specs.declared.lookup.Where.{Where}
 use Rattle.dwarf_source_frames.specs.Frames.{FrameRecord}
 use Rattle.command_queries.specs.Frames.{AskedOfFrames, IsFrameSaid, TellFrames, prints_addresses, prints_frames}
 use Rattle.command_queries.specs.Symbolicate.{Answered}
-use Rattle.text_scripts_and_frames.specs.declared.frame.Frame.{Frame}
+use Rattle.text_input_files.specs.declared.frame.Frame.{Frame}
 use Rattle.text_reports.specs.Slices.{TellsSlices, slice_key_cmp}
 use Rattle.command_common.specs.Ends.{Query}
 use Rattle.command_common.specs.Inputs.{Reader, EachUntouched}
 use Rattle.command_common.specs.declared.faults.Status.{Status}
 use Rattle.command_common.specs.declared.faults.Status.TheVariants.{SomeRefused}
-use Rattle.command_index_evidence.specs.Several.{AreUnfailedTogether}
-use Rattle.command_index_evidence.specs.Together.{AreReadWith}
+use Rattle.command_given_indexes.specs.Several.{AreUnfailedTogether}
+use Rattle.command_given_indexes.specs.Together.{AreReadWith}
 use Rattle.command_frames.specs.Asking.{AreGiven, AreRefusedAsking, IsAnsweredAt, keys_of}
 use Rattle.command_frames.specs.Refusals.{AreRefusing, IsKeyRefused, KeyRefusal, Reply, refusal_lines}
 use Rattle.command_frames.specs.Refusals.{replies_status, replies_text}

@@ -14,7 +14,7 @@ use Rattle.command_common.specs.declared.faults.InputName.{InputName}
 use Rattle.command_common.specs.declared.faults.InputName.TheVariants.{Index}
 use Rattle.command_common.specs.declared.faults.Why.{Why}
 use Rattle.command_common.specs.declared.faults.Why.TheVariants as why
-use Rattle.command_index_evidence.specs.Together.{AreAllKept, IsFirstRefusedAtPlaces}
+use Rattle.command_given_indexes.specs.Together.{AreAllKept, IsFirstRefusedAtPlaces}
 use Rattle.command_frames.specs.Asking.{is_stale_entry}
 
 -- the fault of a command for a fault of answers

@@ -12,7 +12,7 @@ use Rattle.archive_core.specs.declared.lookup.Where.{Where}
 use Rattle.command_queries.specs.Places.{IsPlaceTold}
 use Rattle.command_queries.specs.Symbolicate.{asked_of}
 use Rattle.command_queries.specs.declared.places.PlaceAnswer.{PlaceAnswer}
-use Rattle.text_scripts_and_frames.specs.declared.frame.Frame.{Frame}
+use Rattle.text_input_files.specs.declared.frame.Frame.{Frame}
 use Rattle.command_common.specs.Inputs.{Reader}
 use Rattle.command_common.specs.declared.faults.CommandFault.{CommandFault}
 use Rattle.command_common.specs.declared.faults.CommandFault.TheVariants.{Input, Output, OutOfMemory, Report}

@@ -11,7 +11,7 @@ use Rattle.std.specs.declared.cmp.Ordering.TheVariants.{Less}
 use Rattle.archive_core.specs.Key.{key_bytes}
 use Rattle.command_queries.specs.Symbolicate.{asked_of}
 use Rattle.archive_core.specs.declared.keys.SliceKey.{SliceKey}
-use Rattle.text_scripts_and_frames.specs.declared.frame.Frame.{Frame}
+use Rattle.text_input_files.specs.declared.frame.Frame.{Frame}
 use Rattle.archive_core.specs.declared.lookup.Where.{Where}
 use Rattle.archive_core.specs.declared.lookup.Where.TheVariants.{File, Loaded}
 use Rattle.command_frames.specs.declared.places.AskedKey.{AskedKey}

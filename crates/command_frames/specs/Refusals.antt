@@ -21,10 +21,10 @@ use Rattle.command_common.specs.declared.faults.Status.TheVariants.{Done, Partia
 use Rattle.command_common.specs.declared.faults.Why.{Why}
 use Rattle.command_common.specs.declared.faults.Why.TheVariants.{Stale}
 use Rattle.command_queries.specs.Symbolicate.{Answered, is_symbol}
-use Rattle.command_index_evidence.specs.Prefixes.{IsStaleFor}
-use Rattle.command_index_evidence.specs.Together.{AreNamedBy}
+use Rattle.command_given_indexes.specs.Prefixes.{IsStaleFor}
+use Rattle.command_given_indexes.specs.Together.{AreNamedBy}
 use Rattle.index_lookup.specs.Among.{AreAnsweringAmong, AreTied, EntryAt}
-use Rattle.text_scripts_and_frames.specs.declared.frame.Frame.{Frame}
+use Rattle.text_input_files.specs.declared.frame.Frame.{Frame}
 use Rattle.command_frames.specs.Asking.{HavePlaces, IsChanged, IsLineless}
 
 -- a refused key, with its fault

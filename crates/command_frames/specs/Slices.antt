@@ -5,7 +5,7 @@ use Rattle.archive_core.specs.declared.find.FindRow.{FindRow}
 use Rattle.archive_core.specs.declared.keys.SliceKey.{SliceKey}
 use Rattle.command_queries.specs.Slices.{HaveUuidOf}
 use Rattle.index_lookup.specs.Among.{all_of, answers_among}
-use Rattle.command_index_evidence.specs.Rows.{IsEntryRow}
+use Rattle.command_given_indexes.specs.Rows.{IsEntryRow}
 
 -- The row is that of an entry of these indexes that answers under its key, and one of these keys has its UUID.
 pub record IsAnsweringEntryRow (all : List (List (List ℕ))) (keys : List SliceKey) (row : FindRow) : Type 0 where

@@ -2,7 +2,7 @@
 
 ghost use Rattle.std.specs.Prelude.{All, Bool, Contains};
 ghost use Rattle.archive_core.specs.Key.{IsKey};
-ghost use Rattle.text_scripts_and_frames.specs.declared.frame.Frame.{Frame};
+ghost use Rattle.text_input_files.specs.declared.frame.Frame.{Frame};
 ghost use Rattle.command_common.specs.Inputs.{ReadsInputs, readers};
 ghost use Rattle.command_queries.specs.Frames.{AskedOfFrames, frames_by_records};
 ghost use Rattle.command_frames.specs.Frames.{frames_by_indexes};
@@ -12,9 +12,9 @@ use crate::records::answer_by_records;
 use archive_core::{Archive, SliceKey};
 use byte_device::{Placed, Source};
 use command_common::{CommandFault, Evidence, Records, Status};
-use command_index_evidence::Indexes;
+use command_given_indexes::Indexes;
 use heap_memory::Heap;
-use text_scripts_and_frames::Frame;
+use text_input_files::Frame;
 
 /// Archives by the inputs that a command reads to answer frames.
 pub trait FrameEvidence: Evidence {

@@ -5,7 +5,7 @@ ghost use Rattle.command_common.specs.Ends.{EndsReport};
 ghost use Rattle.command_common.specs.Inputs.{ReadsInputs, reader, readers};
 ghost use Rattle.command_common.specs.Outputs.{writer};
 ghost use Rattle.command_queries.specs.Frames.{prints_frames};
-ghost use Rattle.command_index_evidence.specs.Several.{AreUnfailedTogether};
+ghost use Rattle.command_given_indexes.specs.Several.{AreUnfailedTogether};
 ghost use Rattle.command_frames.specs.Asking.{AreRefusedAsking};
 ghost use Rattle.command_frames.specs.Frames.{AreToldAt};
 ghost use Rattle.command_frames.specs.InnerReplies.{PrintsFrames};
@@ -21,10 +21,10 @@ use crate::slices::with_slices;
 use archive_core::{Archive, SliceKey};
 use byte_device::{Placed, Sink, Source};
 use command_common::{CommandFault, Status, read_frames_input, write_report_bytes};
-use command_index_evidence::read_indexes;
+use command_given_indexes::read_indexes;
 use heap_memory::{Heap, NoMemory};
 use index_format::Index;
-use text_scripts_and_frames::Frame;
+use text_input_files::Frame;
 
 /// The lines of the replies to the frames; if `slices`, followed by those of the slices that answer under these keys,
 /// and those of the refused keys. Also returns the status of a command that prints them.

@@ -11,7 +11,7 @@ ghost use Rattle.command_queries.specs.Slices.{AreUuidsOf};
 use archive_core::SliceKey;
 use heap_memory::{Heap, NoMemory};
 use std::cmp::Ordering;
-use text_scripts_and_frames::Frame;
+use text_input_files::Frame;
 use uuid::Uuid;
 
 /// The key itself; its parts have their widths.

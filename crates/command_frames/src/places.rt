@@ -5,7 +5,7 @@ ghost use Rattle.std.specs.List.Sorted.{IsSortedByKey, IsStrictlySortedBy};
 ghost use Rattle.std.specs.Ordering.{nat_cmp};
 ghost use Rattle.std.specs.Cmp.Lexicographic.{slice_cmp};
 ghost use Rattle.archive_core.specs.Key.{key_bytes};
-ghost use Rattle.archive_results.specs.Keys.{AreInOrder as AreKeysInOrder};
+ghost use Rattle.archive_from_records.specs.Keys.{AreInOrder as AreKeysInOrder};
 ghost use Rattle.command_frames.specs.InnerPlaces.{AreAskedOf, AreGrouped, AreKeysOf};
 ghost use Rattle.command_frames.specs.InnerPlaces.{asked_cmp, has_key, numbers_of, place_cmp, place_of};
 
@@ -13,7 +13,7 @@ use archive_core::{SliceKey, Where, compare_keys};
 use command_queries::asked_of;
 use heap_memory::{Heap, NoMemory};
 use std::cmp::Ordering;
-use text_scripts_and_frames::Frame;
+use text_input_files::Frame;
 
 /// An address that is asked for under a key.
 #[derive(Clone, Copy)]

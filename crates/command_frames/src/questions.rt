@@ -10,8 +10,8 @@ use crate::key_answers::KeyAnswers;
 use crate::places::AskedKey;
 use crate::tables::KeyReply;
 use archive_core::{Archive, SliceKey};
+use archive_from_records::{Questions, Selects};
 use archive_records::key_prefix;
-use archive_results::{Questions, Selects};
 use command_queries::answer_places;
 use heap_memory::{Heap, NoMemory};
 

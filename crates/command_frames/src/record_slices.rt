@@ -7,7 +7,7 @@ ghost use Rattle.std.specs.Cmp.Lexicographic.{slice_cmp};
 ghost use Rattle.command_frames.specs.InnerSlices.{AreRowsUnder, TellsRowsUnder};
 
 use archive_core::{Archive, FindRow, SliceKey};
-use archive_results::Selects;
+use archive_from_records::Selects;
 use heap_memory::{Heap, NoMemory};
 use text_reports::slices_lines;
 use uuid::Uuid;

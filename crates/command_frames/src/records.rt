@@ -6,7 +6,7 @@ ghost use Rattle.command_queries.specs.Frames.{TellsFrames, frames_by_records};
 ghost use Rattle.command_frames.specs.InnerSlices.{TellsRowsAfter};
 ghost use Rattle.command_queries.specs.Slices.{IsAnsweringRow, TellsSlicesAfter, WithSlices};
 ghost use Rattle.command_common.specs.Inputs.{ReadsInputs, reader, readers};
-ghost use Rattle.text_scripts_and_frames.specs.declared.frame.Frame.{Frame};
+ghost use Rattle.text_input_files.specs.declared.frame.Frame.{Frame};
 
 use crate::named::uuids_of;
 use crate::places::asked_keys;
@@ -19,7 +19,7 @@ use command_common::{
     CommandFault, Status, answer_all, answer_archives, first_and_rest, read_parts,
 };
 use heap_memory::{Heap, NoMemory};
-use text_scripts_and_frames::Frame;
+use text_input_files::Frame;
 use uuid::Uuid;
 
 /// The status, and the lines of the answers to frames, in order. Each key is asked once; if `lines`, the DWARF of each

@@ -16,8 +16,8 @@ use crate::tables::KeyReply;
 use archive_core::{SliceKey, compare_keys};
 use command_common::{CommandFault, Status};
 use heap_memory::{Heap, NoMemory};
+use text_input_files::Frame;
 use text_reports::Text;
-use text_scripts_and_frames::Frame;
 use text_values::Address;
 
 /// The answers that have the answer for a frame: those of its key, and the number of its address there.

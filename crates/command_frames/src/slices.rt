@@ -4,14 +4,14 @@ ghost use Rattle.std.specs.Prelude.{◌≡◌, All, IfOk, length, string_bytes};
 ghost use Rattle.archive_core.specs.Part.{is_under};
 ghost use Rattle.text_reports.specs.Slices.{TellsSlices};
 ghost use Rattle.index_lookup.specs.Among.{all_of};
-ghost use Rattle.command_index_evidence.specs.Rows.{AreRowsAmong, is_under_one};
+ghost use Rattle.command_given_indexes.specs.Rows.{AreRowsAmong, is_under_one};
 ghost use Rattle.command_frames.specs.InnerSlices.{AreFollowed};
 ghost use Rattle.command_frames.specs.Slices.{IsAnsweringEntryRow};
 
 use crate::named::uuids_of;
 use archive_core::{FindRow, SliceKey};
 use command_common::uuid_bytes;
-use command_index_evidence::rows_with_uuid;
+use command_given_indexes::rows_with_uuid;
 use heap_memory::{Heap, NoMemory};
 use index_format::Index;
 use text_reports::slices_lines;

@@ -12,7 +12,7 @@ use archive_core::{Archive, SliceKey};
 use byte_device::Sink;
 use command_common::{CommandFault, Status, write_report_bytes};
 use heap_memory::{Heap, NoMemory};
-use text_scripts_and_frames::Frame;
+use text_input_files::Frame;
 
 /// The frames of address arguments, in order.
 fn frames_under_key(

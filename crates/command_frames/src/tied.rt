@@ -12,7 +12,7 @@ use crate::tables::KeyReply;
 use archive_core::{Archive, SliceKey, Where};
 use byte_device::Placed;
 use command_common::{CommandFault, Why};
-use command_index_evidence::{KeyPrefix, read_prefixes};
+use command_given_indexes::{KeyPrefix, read_prefixes};
 use command_queries::answer_places;
 use heap_memory::Heap;
 use index_format::Index;

@@ -15,7 +15,7 @@ use Rattle.archive_core.specs.Record.{admission_record}
 use Rattle.archive_core.specs.declared.keys.SliceKey.{SliceKey}
 use Rattle.archive_core.specs.declared.lookup.Where.{Where}
 use Rattle.archive_core.proofs.Members.{in_cons, in_front, in_rest, one_with_members, pairs_more, to_map}
-use Rattle.archive_results.specs.Keys.{AnswersAs}
+use Rattle.archive_from_records.specs.Keys.{AnswersAs}
 use Rattle.dwarf_source_frames.specs.AddressFrames.{AreFramesOf}
 use Rattle.dwarf_asked_frames.specs.FoundFrames.{frames_under}
 use Rattle.dwarf_source_frames.specs.Frames.{FrameRecord}

@@ -20,8 +20,8 @@ use Rattle.archive_core.proofs.Words.{covered_slice, live_in_content}
 use Rattle.archive_records.specs.Entry.{IsEntry, entry_bytes}
 use Rattle.archive_records.specs.Reader.{set_of}
 use Rattle.archive_records.proofs.Apart.{from_set, in_set, is_false}
-use Rattle.archive_results.specs.Names.{AddsNames}
-use Rattle.archive_results.specs.declared.names.NamesFound.{NamesFound}
+use Rattle.archive_from_records.specs.Names.{AddsNames}
+use Rattle.archive_from_records.specs.declared.names.NamesFound.{NamesFound}
 use Rattle.command_common.specs.Archives.{HoldTogether, merged}
 use Rattle.command_common.specs.Inputs.{HoldsArchive, HoldsContent, IsArchive, Reader}
 use Rattle.command_common.proofs.Archives.{each_archive, hold_more}

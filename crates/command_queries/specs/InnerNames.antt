@@ -5,7 +5,7 @@ use Rattle.std.specs.FinSet as set
 use Rattle.archive_core.specs.Content.{Operations, IsContent, is_admission}
 use Rattle.archive_core.specs.Names.{IsNameRow, NameRecord, owned_name_view}
 use Rattle.archive_records.specs.Entry.{entry_bytes}
-use Rattle.archive_results.specs.declared.names.NamesFound.{NamesFound}
+use Rattle.archive_from_records.specs.declared.names.NamesFound.{NamesFound}
 use Rattle.command_common.specs.Inputs.{Reader, HoldsArchive}
 
 -- one of these contents has this row for the name

@@ -2,13 +2,15 @@
 ghost use Rattle.std.specs.Prelude.{◌≡◌, ◌&&◌, [], IfOk, length, map, nat_eq, not, string_bytes};
 ghost use Rattle.archive_core.specs.Names.{IsNames};
 ghost use Rattle.archive_core.specs.Names.{owned_name_view};
-ghost use Rattle.archive_results.specs.Names.{AddsNames};
+ghost use Rattle.archive_from_records.specs.Names.{AddsNames};
 ghost use Rattle.command_common.specs.Archives.{ReadsOthers, ReadsTogether};
 ghost use Rattle.command_common.specs.Inputs.{HoldsContent, IsRefusedArchive, ReadsInput, reader, readers};
 ghost use Rattle.command_queries.specs.InnerNames.{HaveAdded};
 ghost use Rattle.command_queries.specs.Name.{Answers, underscored};
 
-use archive_results::{NamesFound, NamesTold, SoughtNames, gather_names, live_names, read_names};
+use archive_from_records::{
+    NamesFound, NamesTold, SoughtNames, gather_names, live_names, read_names,
+};
 use byte_device::Source;
 use command_common::{CommandFault, InputName, Status, found_status, refusal};
 use heap_memory::{Heap, NoMemory};

@@ -52,10 +52,9 @@ fn put_front<R: Source, W: Sink>(
 /// (`table_source_frames_build::line_table`), of 57 bytes for each retirement, and of the entries.
 ///
 /// # Errors
-///
-/// Those of `archive_results::read_archive`, in the same order and with the same offsets; for an archive of version 1
-/// `OldArchive`, after only its magic was read; `TooLong` if the offset of a record of the archive, or of a table of
-/// the index, would be more than 2^64 - 1. `Write` if the writer failed before the archive was refused.
+/// Those of `archive_from_records::read_archive`, in the same order and with the same offsets; for an archive of
+///version 1 `OldArchive`, after only its magic was read; `TooLong` if the offset of a record of the archive, or of a
+///table of the index, would be more than 2^64 - 1. `Write` if the writer failed before the archive was refused.
 pub fn index_into<R: Source, W: Sink>(
     heap: Heap,
     r: &mut R,

@@ -7,13 +7,13 @@ use Rattle.archive_exchange.specs.World as model
 use Rattle.archive_exchange.specs.World.{state, outcomes}
 use Rattle.archive_exchange.specs.InnerEvents.{SeenFile}
 use Rattle.archive_exchange.specs.ModelEvent.{ModelEvent, IsFile, IsSeen, AreSeen, OutcomeIs, row_told, fault_told}
-use Rattle.archive_file_admission.specs.declared.fault.TakeFault.{TakeFault}
-use Rattle.text_scripts_and_frames.specs.declared.event.Event.{Event}
-use Rattle.text_scripts_and_frames.specs.declared.event.Event.TheVariants as event
+use Rattle.archive_image_admission.specs.declared.fault.TakeFault.{TakeFault}
+use Rattle.text_input_files.specs.declared.event.Event.{Event}
+use Rattle.text_input_files.specs.declared.event.Event.TheVariants as event
 use Rattle.archive_exchange.specs.declared.outcome.Outcome.{Outcome}
 use Rattle.archive_exchange.specs.declared.outcome.Outcome.TheVariants.{Took, Retired, Refused}
-use Rattle.text_scripts_and_frames.specs.Events.{Act, Take, Retire, Full, Ask, Reply, Deliver, Save, Stop, act_of}
-use Rattle.text_scripts_and_frames.specs.Script.{acts, script_of}
+use Rattle.text_input_files.specs.Events.{Act, Take, Retire, Full, Ask, Reply, Deliver, Save, Stop, act_of}
+use Rattle.text_input_files.specs.Script.{acts, script_of}
 use Rattle.archive_exchange.specs.EventLines.{event_fault_text, event_lines, outcome_text, sent_text, took_text}
 use Rattle.text_reports.specs.Report.{line}
 use Rattle.command_common.specs.declared.faults.Status.{Status}

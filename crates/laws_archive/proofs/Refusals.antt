@@ -11,15 +11,15 @@ use Rattle.archive_records.specs.declared.fault.RecordFaultKind.TheVariants.{Out
 use Rattle.archive_records.specs.declared.kind.TextKind.{TextKind}
 use Rattle.archive_records.specs.declared.kind.TextKind.TheVariants.{Archive as ArchiveFile}
 use Rattle.archive_records.proofs.Exact.{one_fault}
-use Rattle.archive_file_admission.specs.File.{IsAcceptedFile, IsTakeFault}
-use Rattle.archive_file_admission.specs.declared.fault.TakeFault.{TakeFault}
-use Rattle.archive_file_admission.specs.declared.fault.TakeFault.TheVariants.{OutOfMemory as TakeOutOfMemory}
+use Rattle.archive_image_admission.specs.File.{IsAcceptedFile, IsTakeFault}
+use Rattle.archive_image_admission.specs.declared.fault.TakeFault.{TakeFault}
+use Rattle.archive_image_admission.specs.declared.fault.TakeFault.TheVariants.{OutOfMemory as TakeOutOfMemory}
 use Rattle.text_values.specs.Lines.{line_at}
-use Rattle.text_scripts_and_frames.specs.FrameFlaws.{frame_flaw}
-use Rattle.text_scripts_and_frames.specs.Frames.{frames_of}
-use Rattle.text_scripts_and_frames.specs.ScriptFlaws.{script_flaw}
-use Rattle.text_scripts_and_frames.specs.Events.{Act}
-use Rattle.text_scripts_and_frames.specs.Script.{Wrong, script_of}
+use Rattle.text_input_files.specs.FrameFlaws.{frame_flaw}
+use Rattle.text_input_files.specs.Frames.{frames_of}
+use Rattle.text_input_files.specs.ScriptFlaws.{script_flaw}
+use Rattle.text_input_files.specs.Events.{Act}
+use Rattle.text_input_files.specs.Script.{Wrong, script_of}
 use Rattle.command_common.specs.declared.faults.InputName.{InputName}
 use Rattle.command_common.specs.declared.faults.InputName.TheVariants.{Archive}
 use Rattle.command_common.specs.declared.faults.Why.{Why}

@@ -21,8 +21,8 @@ use Rattle.archive_index.proofs.Held.{are_records}
 use Rattle.archive_records.specs.Entry.{AreEntries}
 use Rattle.archive_records.specs.Text.{AreOperations, IsOperationsText, summary_text, written}
 use Rattle.archive_records.proofs.Versions.{made_content}
-use Rattle.archive_file_admission.specs.File.{IsAcceptedFile, admissible}
-use Rattle.archive_file_admission.specs.Take.{admitted}
+use Rattle.archive_image_admission.specs.File.{IsAcceptedFile, admissible}
+use Rattle.archive_image_admission.specs.Take.{admitted}
 use Rattle.archive_exchange.proofs.Content.{joined_made, taken_gain, union_nothing}
 use Rattle.byte_lazy_inputs.specs.declared.openings.Opening.{Opening}
 use Rattle.command_common.specs.Archives.{merged}

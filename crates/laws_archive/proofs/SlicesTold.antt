@@ -4,7 +4,7 @@ use Rattle.archive_core.specs.Content.{Operations}
 use Rattle.archive_core.specs.declared.find.FindRow.{FindRow}
 use Rattle.archive_core.specs.declared.keys.SliceKey.{SliceKey}
 use Rattle.archive_core.proofs.Members.{one_with_members}
-use Rattle.text_scripts_and_frames.specs.declared.frame.Frame.{Frame}
+use Rattle.text_input_files.specs.declared.frame.Frame.{Frame}
 use Rattle.text_reports.specs.Slices.{TellsSlices, slices_lines}
 use Rattle.text_reports.proofs.Sliced.{keys_total, rows_total}
 use Rattle.command_common.specs.declared.faults.Status.{Status}

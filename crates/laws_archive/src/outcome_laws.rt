@@ -12,7 +12,7 @@ ghost use Rattle.archive_records.specs.Entry.{AreEntries};
 ghost use Rattle.archive_records.specs.Text.{IsOperationsText, summary_text, AreOperations, old_written, written};
 ghost use Rattle.archive_merge.specs.Merging.{AreGoodRecords, of_both};
 ghost use Rattle.byte_device.specs.Writes.{WritesFirst};
-ghost use Rattle.archive_file_admission.specs.File.{IsAcceptedFile, parts};
+ghost use Rattle.archive_image_admission.specs.File.{IsAcceptedFile, parts};
 ghost use Rattle.byte_lazy_inputs.specs.declared.openings.Opening.{Opening};
 ghost use Rattle.command_common.specs.declared.faults.Status.TheVariants.{Done};
 ghost use Rattle.command_archives.specs.Admit.{MakesAdmitted, admit, admit_as_it_comes, admit_rows, file_rows};
@@ -32,7 +32,7 @@ ghost use Rattle.laws_archive.specs.Joins.{AreDevicesAlone};
 ghost use Rattle.laws_archive.specs.Stops.{LeavesBeginningIfStopped};
 ghost use Rattle.std.specs.FinSet as set;
 ghost use Rattle.archive_core.specs.Record.{admission_record, record_bytes};
-ghost use Rattle.archive_file_admission.specs.Take.{admitted, taken_rows};
+ghost use Rattle.archive_image_admission.specs.Take.{admitted, taken_rows};
 ghost use Rattle.command_common.specs.declared.faults.InputName.{InputName};
 ghost use Rattle.command_common.specs.declared.faults.Why.{Why};
 ghost use Rattle.command_common.specs.declared.faults.CommandFault.{CommandFault};
@@ -44,7 +44,7 @@ ghost use Rattle.command_common.specs.Archives.{merged};
 
 use crate::content_laws::{contents_join, migrate_joins, takes_in_any_order};
 use crate::text_laws::{one_list_of_operations, one_summary, stopped_merge_of_texts};
-use archive_file_admission::laws::one_take_fault;
+use archive_image_admission::laws::one_take_fault;
 use byte_device::{Sink, Source, Target};
 
 /// For archives with one content, of either version, and files with the same bytes, a command makes one OUT and one

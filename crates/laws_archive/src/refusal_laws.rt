@@ -21,7 +21,7 @@ ghost use Rattle.laws_archive.specs.Refusals.{ArchivesHoldAlike, EachHoldAlike, 
 
 use crate::content_laws::{one_answer, one_find, one_find_name, one_list};
 use archive_exchange::laws::one_meaning;
-use archive_file_admission::laws::one_take_fault;
+use archive_image_admission::laws::one_take_fault;
 use byte_device::Source;
 use dwarf_source_frames::laws::one_list_of_frames;
 

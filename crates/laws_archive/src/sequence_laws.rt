@@ -37,7 +37,7 @@ use crate::content_laws::contents_join;
 use crate::report_laws::one_report;
 use crate::text_laws::{one_list_of_operations, one_summary};
 use archive_exchange::model_laws::reached_is_held;
-use archive_file_admission::laws::one_take_fault;
+use archive_image_admission::laws::one_take_fault;
 use byte_device::{Sink, Source, Target};
 
 /// For any commands, in any order and with any repeats and merges, OUT is the one text of the content of its

@@ -4,7 +4,7 @@ use Rattle.std.proofs.Common.{true, get_or, None, inl, inr}
 use Rattle.std.specs.Prelude.{IfSome, slice_get, Contains}
 use Rattle.std.specs.List.{AllZip, AllByRecursion, list_any}
 use Rattle.std.proofs.lemmas.Option.{same_Some}
-use Rattle.command_index_evidence.specs.Together.{AllThree, IsKept, IsLater, IsRefusedAtPlaces, IsFirstRefusedByIndex, IsReadWith}
+use Rattle.command_given_indexes.specs.Together.{AllThree, IsKept, IsLater, IsRefusedAtPlaces, IsFirstRefusedByIndex, IsReadWith}
 use Rattle.std.specs.Cmp.{both_ways, tied_itself}
 use Rattle.std.specs.Cmp.Lexicographic.{nat_list_cmp_total}
 use Rattle.std.specs.FinSet as set
@@ -31,7 +31,7 @@ use Rattle.index_build.proofs.Accepted.{accepted}
 use Rattle.command_common.specs.Inputs.{Gives, IsGiven, Reader, reader, IsDeviceFault}
 use Rattle.laws_index.specs.Indexes.{IsIndexFile}
 use Rattle.laws_index.proofs.OfContent.{is_key_of}
-use Rattle.command_index_evidence.specs.Indexes.{HoldsIndex, HoldsTables, HasOtherLength, IsOfOtherLength, IsRefusedByIndex, IsUnreadAt, IsUnreadIndex}
+use Rattle.command_given_indexes.specs.Indexes.{HoldsIndex, HoldsTables, HasOtherLength, IsOfOtherLength, IsRefusedByIndex, IsUnreadAt, IsUnreadIndex}
 use Rattle.laws_index.specs.Contents.{HaveKeys, IsIndexGiven, AreOwnIndexes, IsOwnIndex}
 use Rattle.std.specs.Ordering.{eq_by_cmp, is_eq}
 use Rattle.std.proofs.lemmas.List.Folds.{list_any_at}
@@ -47,8 +47,8 @@ use Rattle.index_format.specs.Reading.{IsRefused}
 use Rattle.command_common.specs.declared.faults.InputName.{InputName}
 use Rattle.command_common.specs.declared.faults.Why.{Why}
 use Rattle.command_common.specs.declared.faults.Why.TheVariants.{Record, Index as IndexFaulty}
-use Rattle.command_index_evidence.specs.Prefixes.{IsReadFor, IsStaleFor, IsStaleUnder, IsUnnamedUnder}
-use Rattle.command_index_evidence.specs.Several.{AreRefusedLater, AreRefusedTogether}
+use Rattle.command_given_indexes.specs.Prefixes.{IsReadFor, IsStaleFor, IsStaleUnder, IsUnnamedUnder}
+use Rattle.command_given_indexes.specs.Several.{AreRefusedLater, AreRefusedTogether}
 
 -- ---- lists of one length, whose elements at each place are related
 

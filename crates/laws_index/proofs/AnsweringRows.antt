@@ -22,7 +22,7 @@ use Rattle.index_lookup.specs.Among.{all_of, answers_among, has_live_companion, 
 use Rattle.index_lookup.specs.Told.{is_companion}
 use Rattle.command_common.specs.declared.faults.Status.{Status}
 use Rattle.command_queries.specs.Slices.{IsAnsweringRow, WithSlices}
-use Rattle.command_index_evidence.specs.Rows.{IsEntryRow}
+use Rattle.command_given_indexes.specs.Rows.{IsEntryRow}
 use Rattle.command_frames.specs.Slices.{IsAnsweringEntryRow}
 use Rattle.laws_index.specs.Indexes.{AreIndexes, all_joined}
 use Rattle.laws_index.proofs.Among.{IsOfSlice, admission_if, answers_if, answers_then, content, entry_for, entry_of}

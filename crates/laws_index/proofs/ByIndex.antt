@@ -23,9 +23,9 @@ use Rattle.command_common.specs.Inputs.{IsGiven, Reader}
 use Rattle.laws_index.specs.Indexes.{IsIndexFile, all_joined}
 use Rattle.laws_index.proofs.Joined.{empty_content, to_any}
 use Rattle.laws_index.proofs.IndexesAreRight.{zip_right}
-use Rattle.command_index_evidence.specs.Prefixes.{AreNamedUnder, HoldsNamed}
-use Rattle.command_index_evidence.specs.Several.{HoldTogether}
-use Rattle.command_index_evidence.specs.Together.{IsLater, IsReadWith, merged_each}
+use Rattle.command_given_indexes.specs.Prefixes.{AreNamedUnder, HoldsNamed}
+use Rattle.command_given_indexes.specs.Several.{HoldTogether}
+use Rattle.command_given_indexes.specs.Together.{IsLater, IsReadWith, merged_each}
 use Rattle.laws_index.specs.Contents.{AreIndexed, DigestsDifferOver, IsIndexed}
 use Rattle.laws_index.proofs.Accepted.{still_given, held_tables, of_given, for_first, third_fourth, with_fourth}
 

@@ -27,7 +27,7 @@ use Rattle.command_common.specs.declared.faults.InputName.TheVariants.{Index}
 use Rattle.command_common.specs.declared.faults.Status.{Status}
 use Rattle.command_common.specs.declared.faults.Why.{Why}
 use Rattle.command_common.specs.declared.faults.Why.TheVariants.{NoLines}
-use Rattle.text_scripts_and_frames.specs.declared.frame.Frame.{Frame}
+use Rattle.text_input_files.specs.declared.frame.Frame.{Frame}
 use Rattle.index_format.specs.Text.{IsIndexText}
 use Rattle.laws_index.specs.Indexes.{AreIndexes, AreTiedSlices, DigestsDiffer, IsIndexFile, all_joined}
 use Rattle.laws_index.proofs.Joined.{joined_alone, tells_alone}
@@ -35,8 +35,8 @@ use Rattle.laws_index.proofs.IndexesAreRight as told
 use Rattle.index_lookup.specs.Among.{AreAnsweringAmong, AreTied, EntryAt}
 use Rattle.index_lookup.specs.AmongAsked.{IsLinelessAt}
 use Rattle.text_reports.specs.Slices.{TellsSlices}
-use Rattle.command_index_evidence.specs.Several.{HoldTogether}
-use Rattle.command_index_evidence.specs.Together.{AreLater, AreReadWith, IsReadWith}
+use Rattle.command_given_indexes.specs.Several.{HoldTogether}
+use Rattle.command_given_indexes.specs.Together.{AreLater, AreReadWith, IsReadWith}
 use Rattle.command_frames.specs.Asking.{AreGiven, AreRefusedAsking, AreUntold, IsAnsweredAt, IsAnsweredBySlices, IsAnsweredByTables}
 use Rattle.command_frames.specs.Asking.{IsTableRefused, IsUnreadTable, is_stale_entry, keys_of}
 use Rattle.command_frames.specs.Frames.{AreToldAt, IsAnsweredOrRefused, IsFrameReplied}

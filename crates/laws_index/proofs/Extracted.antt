@@ -28,7 +28,7 @@ use Rattle.laws_index.proofs.Among.{IsOfSlice, admission_if, lives_if, slice_of_
 use Rattle.laws_index.proofs.Joined.{joined_alone, tells_alone}
 use Rattle.laws_index.proofs.IndexesAreRight.{IsAnsweringSlice, slices_right, zip_empty, zip_through}
 use Rattle.index_lookup.specs.Among.{EntryAt}
-use Rattle.command_index_evidence.specs.Together.{AreLater, IsOneOf}
+use Rattle.command_given_indexes.specs.Together.{AreLater, IsOneOf}
 use Rattle.command_extract.specs.Entries.{HoldsSlice, IsChosen, StandFor, AreUnchosen}
 use Rattle.command_extract.specs.Indexed.{MakesEntry, extract_at, LacksEntry}
 use Rattle.command_extract.specs.Wanted.{IsWanted, slice_line, written_line, AreUndecided, slice_row, slices_text}

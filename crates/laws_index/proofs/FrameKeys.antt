@@ -19,8 +19,8 @@ use Rattle.archive_core.specs.declared.keys.ArchKey.{ArchKey}
 use Rattle.archive_core.proofs.Members.{in_cons}
 use Rattle.text_values.specs.Lines.{Field, Line, counting, fields}
 use Rattle.text_values.specs.Words.{NamedArch, arch_key, arch_key_of, arch_named, arch_of, arch_in_cpu_form, named_archs, number_of}
-use Rattle.text_scripts_and_frames.specs.Frames.{fields_frame, frame_then, frame_with, frames_in, frames_of, line_frame}
-use Rattle.text_scripts_and_frames.specs.declared.frame.Frame.{Frame}
+use Rattle.text_input_files.specs.Frames.{fields_frame, frame_then, frame_with, frames_in, frames_of, line_frame}
+use Rattle.text_input_files.specs.declared.frame.Frame.{Frame}
 
 -- ---- architectures
 

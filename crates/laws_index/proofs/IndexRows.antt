@@ -46,18 +46,18 @@ use Rattle.archive_core.proofs.Records.{length-key_of, one_key as same_key}
 use Rattle.archive_core.proofs.Told.{found_under}
 use Rattle.archive_records.specs.Text.{written}
 use Rattle.archive_records.proofs.Contents.{order, along}
-use Rattle.archive_results.specs.InnerRows.{AreRowsOf}
-use Rattle.archive_results.proofs.RowsTold.{list_of}
+use Rattle.archive_from_records.specs.InnerRows.{AreRowsOf}
+use Rattle.archive_from_records.proofs.RowsTold.{list_of}
 use Rattle.index_format.specs.Entry.{IsRowOf, kind_byte, offset_in, placed_entry, dsym_byte, tag_byte}
 use Rattle.index_format.specs.Index.{index, placed_entries}
 use Rattle.index_format.specs.Places.{entries_under}
 use Rattle.index_format.proofs.Named.{under_same}
 use Rattle.index_format.proofs.Placed.{kind_of, offset_is}
 use Rattle.index_format.proofs.Sums.{nonempty, text_length}
-use Rattle.command_index_evidence.specs.Rows.{AreIndexRows, IsEntryRow}
+use Rattle.command_given_indexes.specs.Rows.{AreIndexRows, IsEntryRow}
 use Rattle.laws_index.specs.Contents.{HaveKeys}
 use Rattle.laws_index.proofs.Ascent.{Ascend, any_passed, ascend_sorted, count, is_same, once, one_ascent, one_of_number}
-use Rattle.command_index_evidence.proofs.Entries.{digest_there, key_there}
+use Rattle.command_given_indexes.proofs.Entries.{digest_there, key_there}
 
 -- ---- the row of an entry is that of its record
 

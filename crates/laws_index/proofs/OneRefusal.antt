@@ -23,7 +23,7 @@ use Rattle.archive_core.proofs.Entries.{slice_of}
 use Rattle.archive_core.proofs.Made.{bytes_same}
 use Rattle.archive_core.proofs.Members.{in_cons, in_front, in_map}
 use Rattle.archive_records.proofs.Contents.{order}
-use Rattle.text_scripts_and_frames.specs.declared.frame.Frame.{Frame}
+use Rattle.text_input_files.specs.declared.frame.Frame.{Frame}
 use Rattle.index_format.specs.Entry.{claim_in}
 use Rattle.index_format.specs.Text.{IsIndexText}
 use Rattle.index_format.proofs.Faults.{one_list}

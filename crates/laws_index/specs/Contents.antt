@@ -17,7 +17,7 @@ use Rattle.command_common.specs.declared.faults.Why.TheVariants.{NoLines}
 use Rattle.table_source_frames.specs.SliceTable.{HasNoLines}
 use Rattle.index_format.specs.Text.{IsIndexText}
 use Rattle.laws_index.specs.Indexes.{AnswersUnder, IsIndexFile}
-use Rattle.command_index_evidence.specs.Together.{AllThree}
+use Rattle.command_given_indexes.specs.Together.{AllThree}
 
 -- each slice of a content is under a key whose parts have their widths, as for each slice of bytes
 abbrev pub HaveKeys : Operations → Type 0

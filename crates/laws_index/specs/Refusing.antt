@@ -5,7 +5,7 @@ use Rattle.archive_core.specs.Content.{Operations}
 use Rattle.archive_core.specs.Key.{key_bytes}
 use Rattle.archive_core.specs.declared.keys.SliceKey.{SliceKey}
 use Rattle.archive_records.specs.Text.{written}
-use Rattle.text_scripts_and_frames.specs.declared.frame.Frame.{Frame}
+use Rattle.text_input_files.specs.declared.frame.Frame.{Frame}
 use Rattle.text_reports.specs.Slices.{TellsSlices}
 use Rattle.command_common.specs.Inputs.{IsGiven, Reader}
 use Rattle.command_common.specs.declared.faults.Status.{Status}

@@ -14,7 +14,7 @@ use test_parts::{
     print_slice, print_strict_devices, print_summary, print_text, print_whole, print_writing,
     text_of,
 };
-use text_scripts_and_frames::{Script, read_script};
+use text_input_files::{Script, read_script};
 
 /// A call below the commands.
 #[derive(Clone, Copy)]

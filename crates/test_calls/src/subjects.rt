@@ -2,8 +2,8 @@
 
 use archive_core::{Archive, Operation, Slice, take_all};
 use archive_exchange::Site;
+use archive_from_records::read_ops;
 use archive_index::take_each;
-use archive_results::read_ops;
 use byte_device::Bytes;
 use heap_memory::Heap;
 use join_core::Join;

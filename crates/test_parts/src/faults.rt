@@ -2,7 +2,7 @@
 
 use archive_core::{AdmitFault, SliceFault};
 use archive_exchange::{DeliverFault, ReplyFault};
-use archive_file_admission::TakeFault;
+use archive_image_admission::TakeFault;
 use archive_records::{RecordFault, RecordFaultKind};
 use fat_slices::FatFault;
 use heap_memory::NoMemory;

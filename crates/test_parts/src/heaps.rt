@@ -3,7 +3,7 @@
 use crate::archives::read;
 use crate::faults::{CallFault, Ended};
 use archive_core::{Archive, Operation, take_all};
-use archive_results::read_ops;
+use archive_from_records::read_ops;
 use byte_device::Bytes;
 use heap_memory::{Heap, NoMemory};
 use std::alloc::Global;

@@ -4,8 +4,8 @@ use Rattle.std.specs.Fmt.{decimal}
 use Rattle.uuid.specs.Text.{hyphenated_text, lower}
 use Rattle.archive_core.specs.declared.keys.SliceKey.{SliceKey}
 use Rattle.archive_records.specs.declared.writing.Sizes.{Sizes}
-use Rattle.archive_file_admission.specs.declared.taken.Taken.{Taken}
-use Rattle.archive_file_admission.specs.declared.taken.Taken.TheVariants.{Added, Known, Skipped}
+use Rattle.archive_image_admission.specs.declared.taken.Taken.{Taken}
+use Rattle.archive_image_admission.specs.declared.taken.Taken.TheVariants.{Added, Known, Skipped}
 use Rattle.text_values.specs.Words.{arch_text, digest_text}
 use Rattle.text_reports.specs.declared.rows.AdmitRow.{AdmitRow}
 

@@ -15,16 +15,16 @@ use Rattle.archive_records.specs.declared.fault.RecordFaultKind.TheVariants.{Too
 use Rattle.archive_records.specs.declared.fault.RecordFaultKind.TheVariants.{BadSlice, KeyMismatch, BadCount, Trailing}
 use Rattle.archive_records.specs.declared.fault.RecordFaultKind.TheVariants.{Device, OutOfMemory, Covered}
 use Rattle.archive_records.specs.declared.fault.RecordFault.{RecordFault}
-use Rattle.archive_file_admission.specs.declared.fault.TakeFault.{TakeFault}
-use Rattle.archive_file_admission.specs.declared.fault.TakeFault.TheVariants.{Unrecognised, Fat, Slice, NothingToAdmit}
-use Rattle.archive_file_admission.specs.declared.fault.TakeFault.TheVariants.{OutOfMemory as TakeOutOfMemory}
+use Rattle.archive_image_admission.specs.declared.fault.TakeFault.{TakeFault}
+use Rattle.archive_image_admission.specs.declared.fault.TakeFault.TheVariants.{Unrecognised, Fat, Slice, NothingToAdmit}
+use Rattle.archive_image_admission.specs.declared.fault.TakeFault.TheVariants.{OutOfMemory as TakeOutOfMemory}
 use Rattle.fat_slices.specs.declared.fat_fault.FatFault.{FatFault}
 use Rattle.fat_slices.specs.declared.fat_fault.FatFault.TheVariants.{NotUniversal}
 use Rattle.fat_slices.specs.declared.fat_fault.FatFault.TheVariants.{HeaderTruncated as FatHeaderTruncated}
 use Rattle.fat_slices.specs.declared.fat_fault.FatFault.TheVariants.{TooManyArches, TableTruncated, SliceOutside}
 use Rattle.fat_slices.specs.declared.fat_fault.FatFault.TheVariants.{TooLarge as FatTooLarge}
-use Rattle.text_scripts_and_frames.specs.declared.script.ScriptFault.{ScriptFault}
-use Rattle.text_scripts_and_frames.specs.declared.script.ScriptFault.TheVariants.{NoSites, BadEvent, TooManyEvents}
+use Rattle.text_input_files.specs.declared.script.ScriptFault.{ScriptFault}
+use Rattle.text_input_files.specs.declared.script.ScriptFault.TheVariants.{NoSites, BadEvent, TooManyEvents}
 
 -- a fault's name, and its value in parentheses
 abbrev pub called : List ℕ → List ℕ → List ℕ

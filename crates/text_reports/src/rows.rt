@@ -2,7 +2,7 @@
 
 use crate::Text;
 use archive_core::SliceKey;
-use archive_file_admission::Taken;
+use archive_image_admission::Taken;
 use archive_records::Sizes;
 use std::fmt;
 use text_values::Spelled;

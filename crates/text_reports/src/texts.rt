@@ -1,13 +1,13 @@
 //! The printed texts of faults: a fault's name, and in parentheses its numbers or the fault inside.
 
 use archive_core::SliceFault;
-use archive_file_admission::TakeFault;
+use archive_image_admission::TakeFault;
 use archive_records::{RecordFault, RecordFaultKind};
 use fat_slices::FatFault;
 use macho_image::ImageFault;
 use macho_symbols::SymbolFault;
 use std::fmt::{self, Display};
-use text_scripts_and_frames::ScriptFault;
+use text_input_files::ScriptFault;
 
 /// A value of another crate, with its text for the report.
 #[derive(Clone, Copy, Debug, PartialEq, Eq)]

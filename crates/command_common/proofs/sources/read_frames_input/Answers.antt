@@ -1,7 +1,7 @@
 use Rattle.std.proofs.Common.{◌≡◌, ◌∙◌, Err, ap, refl, subst, sym}
 use Rattle.text_values.specs.Lines.{line_at}
-use Rattle.text_scripts_and_frames.specs.FrameFlaws.{frame_flaw}
-use Rattle.text_scripts_and_frames.specs.Frames.{IsErrorOf, frames_of}
+use Rattle.text_input_files.specs.FrameFlaws.{frame_flaw}
+use Rattle.text_input_files.specs.Frames.{IsErrorOf, frames_of}
 use Rattle.command_common.proofs.Given.{gives_too}
 use Rattle.command_common.proofs.sources.read_frames_input.Goals as goal
 

@@ -1,5 +1,5 @@
 use Rattle.std.proofs.Common.{◌∙◌, sym}
-use Rattle.archive_results.proofs.Questioned.{answers_first}
+use Rattle.archive_from_records.proofs.Questioned.{answers_first}
 use Rattle.command_common.proofs.Parts.{behind_there, first_there}
 use Rattle.command_common.proofs.together.answer_all.Goals as goal
 

@@ -2,7 +2,7 @@ use Rattle.std.proofs.Common.{◌≡◌, Contains, length}
 use Rattle.archive_core.specs.Content.{Operations}
 use Rattle.archive_core.specs.Key.{key_bytes}
 use Rattle.archive_core.specs.declared.keys.SliceKey.{SliceKey}
-use Rattle.archive_results.specs.Keys.{AnswersAs}
+use Rattle.archive_from_records.specs.Keys.{AnswersAs}
 use Rattle.command_common.proofs.together.answer_all.Given as goal
 
 abbrev pub invariant-questions : goal.invariant-questions

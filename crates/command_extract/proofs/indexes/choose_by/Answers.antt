@@ -2,7 +2,7 @@ use Rattle.std.proofs.Common.{◌∙◌, length, refl, ap}
 use Rattle.std.proofs.lemmas.Result.{err_from_is_err_and}
 use Rattle.command_common.specs.Inputs.{readers}
 use Rattle.command_common.proofs.Readers.{none_failed}
-use Rattle.command_index_evidence.proofs.Groups.{as_many}
+use Rattle.command_given_indexes.proofs.Groups.{as_many}
 use Rattle.command_extract.specs.Indexed.{IsNamedBy}
 use Rattle.command_extract.proofs.ByEntry.{chosen_when_tied, refused_first, rows_so, wanting}
 use Rattle.command_extract.proofs.indexes.choose_by.Goals as goal

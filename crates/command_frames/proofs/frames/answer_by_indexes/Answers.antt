@@ -2,7 +2,7 @@ use Rattle.std.proofs.Common.{◌∙◌, ap, length, subst, sym, inl}
 use Rattle.std.proofs.lemmas.Result.{err_from_is_err_and}
 use Rattle.command_common.specs.Inputs.{readers}
 use Rattle.command_common.proofs.Parts.{refusal_of}
-use Rattle.command_index_evidence.proofs.Groups.{as_many}
+use Rattle.command_given_indexes.proofs.Groups.{as_many}
 use Rattle.command_frames.specs.InnerPlaces.{AreKeysOf}
 use Rattle.command_frames.proofs.Ended.{frames_refused, frames_told, unfailed_all}
 use Rattle.command_frames.proofs.Shown.{even_told}

@@ -2,7 +2,7 @@ use Rattle.std.proofs.Common.{inl}
 use Rattle.std.proofs.lemmas.Result.{err_from_is_err_and}
 use Rattle.command_common.proofs.Parts.{refusal_of}
 use Rattle.command_common.proofs.Readers.{none_failed}
-use Rattle.command_index_evidence.proofs.Groups.{kept_none}
+use Rattle.command_given_indexes.proofs.Groups.{kept_none}
 use Rattle.command_frames.proofs.Keys.{by_tables, slices_asked}
 use Rattle.command_frames.proofs.key_answers.answer_key.Goals as goal
 

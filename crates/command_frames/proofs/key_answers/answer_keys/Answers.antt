@@ -6,7 +6,7 @@ use Rattle.std.proofs.lemmas.Option.{slice_get_read}
 use Rattle.std.proofs.lemmas.Result.{err_from_is_err_and}
 use Rattle.archive_core.specs.Key.{key_bytes}
 use Rattle.command_common.proofs.Parts.{refusal_of}
-use Rattle.command_index_evidence.proofs.Groups.{kept_none}
+use Rattle.command_given_indexes.proofs.Groups.{kept_none}
 use Rattle.index_lookup.specs.AmongAsked.{HaveTexts}
 use Rattle.command_frames.specs.Asking.{IsAnsweredAt}
 use Rattle.command_frames.specs.InnerKeyReplies.{IsRefusedAt, IsToldUnder, asked_in}

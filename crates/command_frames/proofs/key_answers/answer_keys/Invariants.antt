@@ -1,7 +1,7 @@
 use Rattle.std.proofs.Common.{◌≡◌, take}
 use Rattle.std.specs.List.{All}
 use Rattle.command_common.specs.Inputs.{readers}
-use Rattle.command_index_evidence.specs.Together.{AreAllKept}
+use Rattle.command_given_indexes.specs.Together.{AreAllKept}
 use Rattle.index_lookup.specs.AmongAsked.{HaveTexts, each_known}
 use Rattle.command_frames.specs.Asking.{IsAnsweredAt}
 use Rattle.command_frames.specs.InnerKeyReplies.{IsRefusedAt, IsToldUnder, asked_in}

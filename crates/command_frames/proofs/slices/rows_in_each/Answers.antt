@@ -2,7 +2,7 @@ use Rattle.std.proofs.Common.{List, ℕ, subst, arith}
 use Rattle.std.proofs.lemmas.List.{take_all}
 use Rattle.archive_core.specs.Part.{is_under}
 use Rattle.index_lookup.specs.Among.{all_of}
-use Rattle.command_index_evidence.specs.Rows.{AreRowsAmong}
+use Rattle.command_given_indexes.specs.Rows.{AreRowsAmong}
 use Rattle.command_frames.proofs.SliceRows.{rows_more, rows_none}
 use Rattle.command_frames.proofs.slices.rows_in_each.Goals as goal
 

@@ -1,7 +1,7 @@
 use Rattle.std.proofs.Common.{take}
 use Rattle.archive_core.specs.Part.{is_under}
 use Rattle.index_lookup.specs.Among.{all_of}
-use Rattle.command_index_evidence.specs.Rows.{AreRowsAmong}
+use Rattle.command_given_indexes.specs.Rows.{AreRowsAmong}
 use Rattle.command_frames.proofs.slices.rows_in_each.Given as goal
 
 abbrev pub invariant-indexes : goal.invariant-indexes

@@ -4,7 +4,7 @@ use Rattle.std.proofs.lemmas.Result.{err_from_is_err_and}
 use Rattle.byte_device.proofs.Known.{Appends-none}
 use Rattle.archive_core.specs.Key.{IsKey}
 use Rattle.archive_core.proofs.Members.{in_front}
-use Rattle.text_scripts_and_frames.specs.declared.frame.Frame.{Frame}
+use Rattle.text_input_files.specs.declared.frame.Frame.{Frame}
 use Rattle.command_common.proofs.Endings.{reported}
 use Rattle.command_common.proofs.Parts.{together_refused}
 use Rattle.command_queries.proofs.Answered.{under_key}

@@ -1,7 +1,7 @@
 use Rattle.std.proofs.Common.{◌≡◌, refl}
 use Rattle.archive_records.specs.Text.{summary_text}
 use Rattle.archive_records.specs.declared.kind.TextKind.TheVariants.{Operations as OperationsFile, Summary as SummaryFile}
-use Rattle.archive_file_admission.specs.File.{IsAcceptedFile}
+use Rattle.archive_image_admission.specs.File.{IsAcceptedFile}
 use Rattle.command_common.specs.declared.faults.InputName.TheVariants.{File, Ops, Summary}
 use Rattle.command_common.specs.Inputs.{IsAccepted, IsFileRefused, IsGiven}
 use Rattle.laws_archive.proofs.Accepted.{archive as archive_alone, listed_refused, merge_refused, text_refused}

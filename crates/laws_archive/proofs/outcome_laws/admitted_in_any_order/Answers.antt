@@ -2,8 +2,8 @@ use Rattle.std.proofs.Common.{ℕ, List, Contains, map}
 use Rattle.archive_core.specs.Record.{admission_record}
 use Rattle.archive_core.proofs.Members.{in_flat_map, to_flat_map}
 use Rattle.archive_core.proofs.Taken.{taken_are_joined}
-use Rattle.archive_file_admission.specs.File.{admissible}
-use Rattle.archive_file_admission.proofs.Resumed.{admitted_alike}
+use Rattle.archive_image_admission.specs.File.{admissible}
+use Rattle.archive_image_admission.proofs.Resumed.{admitted_alike}
 use Rattle.command_archives.specs.Admit.{images_of}
 use Rattle.laws_archive.proofs.outcome_laws.admitted_in_any_order.Goals as goal
 

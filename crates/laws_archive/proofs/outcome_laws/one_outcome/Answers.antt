@@ -2,7 +2,7 @@ use Rattle.std.proofs.Common.{◌≡◌, ℕ, ◌-◌, List, length, map, sym, a
 use Rattle.archive_core.specs.Content.{Operations, IsContent, with_record, with_records, changes, new_among}
 use Rattle.archive_core.specs.Record.{record_bytes, retirement_record}
 use Rattle.archive_core.specs.Summary as exchange
-use Rattle.archive_file_admission.specs.Take.{admitted}
+use Rattle.archive_image_admission.specs.Take.{admitted}
 use Rattle.archive_records.specs.Text.{IsOperationsText, summary_text, written}
 use Rattle.text_reports.specs.Report.{admit_lines, apply_line, retire_line}
 use Rattle.command_archives.specs.Admit.{admit_rows, images_of}

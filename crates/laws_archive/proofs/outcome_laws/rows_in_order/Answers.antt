@@ -3,10 +3,10 @@ use Rattle.std.proofs.Common.{drop-cons, Some, refl, sym, ap, ◌∙◌, add-one
 use Rattle.std.proofs.lemmas.Option.{get_or_from_slice_get, slice_get_within}
 use Rattle.std.proofs.lemmas.Grind.{flat_map-append}
 use Rattle.archive_core.specs.Content.{Operations}
-use Rattle.archive_file_admission.specs.File.{parts, admissible}
-use Rattle.archive_file_admission.specs.Take.{admitted, taken_rows}
-use Rattle.archive_file_admission.proofs.Fronts.{front_more as front_with}
-use Rattle.archive_file_admission.proofs.Rows.{admitted-append}
+use Rattle.archive_image_admission.specs.File.{parts, admissible}
+use Rattle.archive_image_admission.specs.Take.{admitted, taken_rows}
+use Rattle.archive_image_admission.proofs.Fronts.{front_more as front_with}
+use Rattle.archive_image_admission.proofs.Rows.{admitted-append}
 use Rattle.text_reports.specs.declared.rows.AdmitRow.{AdmitRow}
 use Rattle.command_archives.specs.Admit.{images_of, file_rows, admit_rows}
 use Rattle.command_archives.proofs.Files.{admit_rows-append}

@@ -2,8 +2,8 @@ use Rattle.std.proofs.Common.{◌≡◌, ℕ, List, [], ◌∷◌, Ok, Err, Bool
 use Rattle.std.specs.List.{AllByRecursion, AllZip}
 use Rattle.archive_core.specs.Content.{Operations, IsContent}
 use Rattle.archive_records.specs.Text.{IsArchiveOf}
-use Rattle.text_scripts_and_frames.specs.Frames.{frames_of}
-use Rattle.text_scripts_and_frames.specs.declared.frame.Frame.{Frame}
+use Rattle.text_input_files.specs.Frames.{frames_of}
+use Rattle.text_input_files.specs.declared.frame.Frame.{Frame}
 use Rattle.command_common.specs.declared.faults.CommandFault.TheVariants.{Input, Output, Report, OutOfMemory}
 use Rattle.command_common.specs.declared.faults.InputName.{InputName}
 use Rattle.command_common.specs.declared.faults.Status.{Status}
@@ -21,7 +21,7 @@ use Rattle.laws_archive.proofs.Joins.{told_of_join, found_once, listed_once, nam
 use Rattle.laws_archive.proofs.Refusals.{all_good, archives_agree, carried, each_swapped, frames_accepted, good_in_turn}
 use Rattle.laws_archive.proofs.Refusals.{one_first, one_frames, one_in_turn, swapped, one_archive, one_script}
 use Rattle.laws_archive.proofs.Refusals.{script_accepted}
-use Rattle.text_scripts_and_frames.specs.Script.{acts, script_of}
+use Rattle.text_input_files.specs.Script.{acts, script_of}
 use Rattle.archive_core.specs.Find.{IsFinds}
 use Rattle.command_queries.specs.Find.{find}
 use Rattle.command_queries.specs.List.{list}

@@ -1,6 +1,6 @@
 use Rattle.std.proofs.Common.{◌≡◌, Ok, inl, inr}
-use Rattle.text_scripts_and_frames.specs.Frames.{frames_of}
-use Rattle.text_scripts_and_frames.specs.Script.{script_of}
+use Rattle.text_input_files.specs.Frames.{frames_of}
+use Rattle.text_input_files.specs.Script.{script_of}
 use Rattle.laws_archive.proofs.Accepted.{archive as archive_alone}
 use Rattle.laws_archive.proofs.Given.{gives}
 use Rattle.laws_archive.proofs.Joins.{join_refused}

@@ -1,6 +1,6 @@
 use Rattle.std.proofs.Common.{subst}
 use Rattle.archive_core.specs.Summary.{Entries}
-use Rattle.command_index_evidence.specs.Rows.{AreIndexRows}
+use Rattle.command_given_indexes.specs.Rows.{AreIndexRows}
 use Rattle.laws_index.proofs.Accepted.{entries_are, have_keys}
 use Rattle.laws_index.proofs.IndexRows.{found_of_index}
 use Rattle.laws_index.proofs.command_laws.found_by_index.Goals as goal

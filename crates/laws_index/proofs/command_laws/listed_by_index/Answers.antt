@@ -1,6 +1,6 @@
 use Rattle.std.proofs.Common.{[], subst}
 use Rattle.archive_core.specs.Summary.{Entries}
-use Rattle.command_index_evidence.specs.Rows.{AreIndexRows}
+use Rattle.command_given_indexes.specs.Rows.{AreIndexRows}
 use Rattle.laws_index.proofs.Accepted.{entries_are, have_keys}
 use Rattle.laws_index.proofs.IndexRows.{list_of_index}
 use Rattle.laws_index.proofs.command_laws.listed_by_index.Goals as goal

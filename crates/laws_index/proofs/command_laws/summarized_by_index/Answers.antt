@@ -3,7 +3,7 @@ use Rattle.archive_core.specs.Summary.{Entries}
 use Rattle.index_format.proofs.Summarised.{summary_of_index}
 use Rattle.archive_records.specs.Text.{summary_text}
 use Rattle.command_common.specs.Outputs.{summary_report_of}
-use Rattle.command_index_evidence.specs.Answered.{summary_in}
+use Rattle.command_given_indexes.specs.Answered.{summary_in}
 use Rattle.laws_index.proofs.Accepted.{entries_are}
 use Rattle.laws_index.proofs.command_laws.summarized_by_index.Goals as goal
 

@@ -1,6 +1,6 @@
-use Rattle.archive_file_admission.specs.File.{admissible}
+use Rattle.archive_image_admission.specs.File.{admissible}
 use Rattle.archive_exchange.specs.SiteState.{SiteState, IsBetween}
-use Rattle.archive_file_admission.specs.Take.{admitted}
+use Rattle.archive_image_admission.specs.Take.{admitted}
 use Rattle.std.proofs.Common.{subst}
 use Rattle.archive_exchange.proofs.Gained.{content_of_file, between_parts, if_err}
 use Rattle.archive_exchange.proofs.site.Site.take_file.Goals as goal

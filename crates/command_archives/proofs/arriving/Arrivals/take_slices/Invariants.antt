@@ -1,7 +1,7 @@
 use Rattle.std.proofs.Common.{◌≡◌, ◌++◌, ◌+◌, ℕ, List, Option, length, map}
 use Rattle.std.specs.Vec.Iter.{into_iter_items, into_iter_len}
 use Rattle.join_core.specs.Listing.{listing}
-use Rattle.archive_file_admission.specs.Take.{admitted}
+use Rattle.archive_image_admission.specs.Take.{admitted}
 use Rattle.command_archives.specs.PassedOver.{part_rows}
 use Rattle.command_archives.specs.InnerArriving.{AreFirstRows, images_in, record_in, slice_rows}
 use Rattle.command_archives.proofs.arriving.Arrivals.take_slices.Given as goal

@@ -1,7 +1,0 @@
-use Rattle.archive_records.specs.declared.kind.TextKind.TheVariants.{Archive}
-use Rattle.archive_records.proofs.Made.{told_whole}
-use Rattle.archive_results.proofs.reading.read_archive.Goals as goal
-
-pub returns : goal.returns
-returns g c = told_whole Archive g.A.Join.content g.R.Source.left g.R.Source.failures c.args.r.now c.read_answer.new.r c.read_answer.result
-    c.read_answer.ensures

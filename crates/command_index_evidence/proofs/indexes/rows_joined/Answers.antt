@@ -1,7 +1,0 @@
-use Rattle.command_index_evidence.proofs.indexes.rows_joined.Goals as goal
-
-pub returns : goal.returns
-returns g c = record {
-  is = (g.A.Join.content c.in_ok-kept.kept, c.in_ok-kept.ensures.is, c.in_ok-find.ensures);
-  unfailed = c.in_ok-kept.ensures.unfailed;
-}

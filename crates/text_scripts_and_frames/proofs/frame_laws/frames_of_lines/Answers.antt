@@ -1,5 +1,0 @@
-use Rattle.text_scripts_and_frames.proofs.FrameMeant.{frames_lines, frames_said}
-use Rattle.text_scripts_and_frames.proofs.frame_laws.frames_of_lines.Goals as goal
-
-pub returns : goal.returns
-returns c = record { lines = frames_lines; listed = frames_said }
