@@ -271,7 +271,7 @@ class ChangedIndexes(InputsCase):
         before = {words: self.told(words) for words in self.COMMANDS}
         good = self.texts["a.idx"]
         claims = [claim_in(entry) for entry in entries_in(good)]
-        begin, end = len(good) - 41 - 122 * len(claims), len(good) - 41
+        begin, end = len(good) - 57 - 122 * len(claims), len(good) - 57
         for at in range(len(good)):
             changed = good[:at] + bytes([good[at] ^ (1 + 254 * (at % 2))]) + good[at + 1 :]
             for words in self.commands_at(at, self.FRAMES):
@@ -284,7 +284,8 @@ class ChangedIndexes(InputsCase):
                 if at >= begin:
                     faults = {f"BadDigest at {end - 122 * it}" for it in range(4)}
                 if at >= end:
-                    faults |= {f"Truncated at {end}", f"BadCount at {end}"}
+                    faults |= {f"Truncated at {end}", f"BadCount at {end}", "Stale"}
+                    faults |= {f"BadPlace at {begin + 122 * it}" for it in range(len(claims) + 1)}
                 self.assertEqual(came[:2], (2, []))
                 self.assertIn(came[2][0], {f"symarch: index 0: {it}" for it in faults})
 

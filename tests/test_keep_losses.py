@@ -87,7 +87,7 @@ class LossCase(RoomCase):
     def change_entry(self, at: int = 40) -> None:
         """Changes a byte of the first entry of the index."""
         text = kept_index(self.room.archive)
-        change(self.beside("idx"), len(text) - 41 - 122 * len(entries_in(text)) + at)
+        change(self.beside("idx"), len(text) - 57 - 122 * len(entries_in(text)) + at)
 
     def change_end(self) -> None:
         """Changes a byte of the end record of the index."""

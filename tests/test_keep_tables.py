@@ -13,7 +13,7 @@ from .model.pages import Claim
 from .support.cases import same, symarch
 from .support.kills import Left
 from .support.made_images import EMPTY, archive, image, index_of_wide_pages, index_of, index_of_2_3
-from .support.made_images import index_without_tables, slice_words, slices_in
+from .support.made_images import index_without_pages, index_without_tables, slice_words, slices_in
 from .support.program import TOP
 from .support.reports import TOOL as REPORT
 from .support.rooms import RoomCase, change, kept_index, today_of
@@ -219,8 +219,9 @@ class ChangedTables(TableCase):
 
 
 class OtherKinds(TableCase):
-    """A site with indexes of an earlier release, or that no release wrote: without tables, or with tables in wide
-    pages. The next command that writes makes them anew, and says so; until then nothing is said by them."""
+    """A site with indexes of an earlier release, or that no release wrote: without tables, with tables in wide pages,
+    or with entries that are not stored in pages. The next command that writes makes them anew, and says so; until then
+    nothing is said by them."""
 
     def setUp(self) -> None:
         super().setUp()
@@ -304,4 +305,4 @@ class OtherKinds(TableCase):
                 self.is_indexed(*self.files)
 
 
-KINDS = index_without_tables, index_of_wide_pages, index_of_2_3
+KINDS = index_without_tables, index_of_wide_pages, index_without_pages, index_of_2_3

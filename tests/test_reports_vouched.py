@@ -287,10 +287,10 @@ class OtherArchives(VouchedCase):
     def test_an_index_that_is_cut(self) -> None:
         index = self.folder / "site.sym.idx"
         index.write_bytes(index.read_bytes()[:-1])
-        self.is_not_asked(f"site.sym.idx is not read: Truncated at {index.stat().st_size - 41}")
+        self.is_not_asked(f"site.sym.idx is not read: Truncated at {index.stat().st_size - 57}")
 
     def test_an_index_of_which_a_byte_changed(self) -> None:
-        """It has the SHA-256 of its entries. By these alone the dSYM would have another UUID, and the image answer."""
+        """It has the root of its entries. By these alone the dSYM would have another UUID, and the image answer."""
         kept = self.folder / "kept.sym"
         files = [CRASHES / "spool-1", CRASHES / "spool-1.dSYM"]
         self.assertEqual(call([KEEP, "add", kept, *files], environment={"SYMARCH": symarch}).status, 0)
@@ -298,7 +298,7 @@ class OtherArchives(VouchedCase):
         words = [CRASHES / "arm64.crash", "kept.sym"]
         self.says(ALL_NAMED, words=words, status=0, printed=named("crash"))
         index = Path(f"{kept}.idx")
-        begin = index.stat().st_size - 41 - 122 * len(entries_in(index.read_bytes()))
+        begin = index.stat().st_size - 57 - 122 * len(entries_in(index.read_bytes()))
         change(index, begin + 122 * 2 + 9)
         self.is_not_asked(f"kept.sym.idx is not read: BadDigest at {begin}", "kept.sym")
 
@@ -306,7 +306,7 @@ class OtherArchives(VouchedCase):
         """As no release left it: it is refused."""
         text = index_without_tables(self.site.read_bytes())
         (self.folder / "site.sym.idx").write_bytes(text)
-        self.is_not_asked(f"site.sym.idx is not read: Truncated at {len(text) - 41}")
+        self.is_not_asked(f"site.sym.idx is not read: Truncated at {len(text) - 57}")
 
     def test_one_of_two_archives_without_an_index(self) -> None:
         """It is made elsewhere, also of one of version 1, and nothing is left beside the archives."""

@@ -2,14 +2,14 @@
 from __future__ import annotations
 
 import functools
-from typing import Any, Callable, Dict, Iterable, List, NamedTuple, Optional, Sequence, Tuple, TypeVar, Union
+from typing import Any, Callable, Dict, Iterable, List, NamedTuple, Optional, Sequence, Set, Tuple, TypeVar, Union
 
 from .contents import OLD_ARCHIVE, Content, Fault, MergeFault, Source, admission, copy_unnamed, covering, magic_fault
 from .contents import merge_streams, merged_by_definition, read_archive, read_ops, read_summary, retirement
 from .contents import summary_text
 from .images import parts_of_file, sha
-from .indexes import EntryAt, Failed, Placed, Stale, answering, claim_in, index_stream, living, parts_at, read_index
-from .indexes import slice_at, test_length
+from .indexes import EntryAt, Failed, Placed, Stale, answering, claim_in, index_stream, living, parts_at
+from .indexes import read_all, read_index_under, slice_at, test_length
 from .lines import Answer, answer_lines, escaped, find_lines, find_rows, index_rows, key_text, name_lines, row_of
 from .lines import Told, address_text, table_frame_lines, table_text, told_lines
 from .pages import Changed
@@ -118,10 +118,12 @@ class Left(NamedTuple):
 
 
 class Indexed(NamedTuple):
-    """An archive with its index: the device of the index, its entries, and the device of the archive."""
+    """An archive with its index: the device of the index, its entries, the length of the archive by it, and the device
+    of the archive."""
 
     tables: Placed
     entries: List[bytes]
+    size: int
     archive: Placed
 
 
@@ -185,35 +187,38 @@ class Run:
         if len(indexes) < len(archives):
             raise CommandFault(f"archive {len(indexes)}", "NoIndex")
 
-    def indexed(self, archives: Sequence[str], indexes: Sequence[str]) -> List[Indexed]:
-        """The archives with their indexes, which are read, each before the length of its archive."""
+    def indexed(self, archives: Sequence[str], indexes: Sequence[str], uuids: Optional[Set[bytes]]) -> List[Indexed]:
+        """The archives with their indexes, of which the entries under these UUIDs are read, or all, each before the
+        length of its archive."""
         self.test_pairs(archives, indexes)
         found: List[Indexed] = []
         for number, (path, index) in enumerate(zip(archives, indexes)):
             tables = Placed(self.opened(index, f"index {number}"))
             try:
-                entries = read_index(tables)
+                entries, size = read_all(tables) if uuids is None else read_index_under(tables, uuids)
             except Fault as fault:
                 raise CommandFault(f"index {number}", fault.text) from None
             placed = Placed(self.opened(path, f"archive {number}"))
-            self.by_places(number, functools.partial(test_length, entries, placed))
-            found.append(Indexed(tables, entries, placed))
+            self.by_places(number, functools.partial(test_length, size, placed))
+            found.append(Indexed(tables, entries, size, placed))
         return found
 
-    def entries(self, plan: Plan) -> List[bytes]:
-        return self.indexed([plan.one["archive"]], plan.indexes)[0].entries
+    def entries(self, plan: Plan, uuids: Optional[Set[bytes]] = None) -> List[bytes]:
+        return [it for it in self.indexed([plan.one["archive"]], plan.indexes, uuids)[0].entries if it]
 
     def named(self, indexed: Sequence[Indexed], fronts: Sequence[bytes]) -> Content:
         """The join of what the indexes name under these fronts in their archives."""
         made = Content()
         for number, it in enumerate(indexed):
-            made.join(self.by_places(number, functools.partial(parts_at, it.entries, it.archive, fronts)))
+            made.join(self.by_places(number, functools.partial(parts_at, it.entries, it.size, it.archive, fronts)))
         return made
 
     def asked(self, plan: Plan, front: bytes) -> Content:
         """The join of the archives, by their indexes if they have some."""
         archives = [plan.one["archive"], *plan.more]
-        return self.named(self.indexed(archives, plan.indexes), [front]) if plan.indexes else self.join(archives)
+        if not plan.indexes:
+            return self.join(archives)
+        return self.named(self.indexed(archives, plan.indexes, {front}), [front])
 
     @staticmethod
     def told_of(it: EntryAt, table: Placed, places: Sequence[Where], with_frames: bool) -> List[Told]:
@@ -261,12 +266,12 @@ class Run:
         return [told[it] for it in asked], refused
 
     def answers(
-        self, plan: Plan, archives: Sequence[str], asked: Sequence[Asked]
+        self, plan: Plan, archives: Sequence[str], asked: Sequence[Asked], uuids: Set[bytes]
     ) -> Tuple[List[Answer], Dict[bytes, KeyFault]]:
         """The answers to places under keys: of the archives, or by their indexes if they have some; and the faults of
         keys that are refused."""
         if plan.indexes:
-            return self.by_indexes(self.indexed(archives, plan.indexes), asked, plan)
+            return self.by_indexes(self.indexed(archives, plan.indexes, uuids), asked, plan)
         content = self.join(archives)
         images = {key: content.answering(key) for key in {it.key for it in asked}}
         return [answer_lines(images[it.key], *it.where, plan.lines) for it in asked], {}
@@ -438,7 +443,7 @@ class Run:
     @takes("archive uuid", is_asking=True, indexes=ANY_NUMBER)
     def run_find(self, plan: Plan) -> int:
         if len(plan.indexes) == 1 and not plan.more:
-            rows = index_rows(self.entries(plan), plan.uuid)
+            rows = index_rows(self.entries(plan, {plan.uuid}), plan.uuid)
         else:
             rows = find_rows(self.asked(plan, plan.uuid), plan.uuid)
         return self.told(find_lines(rows, False))
@@ -458,7 +463,7 @@ class Run:
         return self.extract_of(plan, self.join([plan.one["archive"], *plan.more]))
 
     def extract_by_entry(self, plan: Plan) -> int:
-        indexed = self.indexed([plan.one["archive"], *plan.more], plan.indexes)
+        indexed = self.indexed([plan.one["archive"], *plan.more], plan.indexes, {plan.key[:16]})
         entries = [it.entries for it in indexed]
         if plan.wanted is not None:
             found = [it for it in living(plan.key, entries) if it.entry[25:57] == plan.wanted][:1]
@@ -513,7 +518,7 @@ class Run:
         return self.answered(plan, [plan.one["archive"], *plan.more], asked, [plan.key])
 
     def answered(self, plan: Plan, archives: Sequence[str], asked: Sequence[Asked], keys: Sequence[bytes]) -> int:
-        answers, faults = self.answers(plan, archives, asked)
+        answers, faults = self.answers(plan, archives, asked, {it[:16] for it in keys})
         slices = self.slices(plan, archives, keys) if plan.slices else []
         refused = [f"{key_text(key)} refused {faults[key].place}: {faults[key].text}" for key in sorted(faults)]
         self.tell([*(line for lines, _ in answers for line in lines), *slices, *refused])
@@ -524,7 +529,8 @@ class Run:
     def slices(self, plan: Plan, archives: Sequence[str], keys: Sequence[bytes]) -> List[str]:
         """The lines of the slices that answer under the UUIDs of keys, and of the keys under which none does."""
         if plan.indexes:
-            rows = index_rows([it for one in self.indexed(archives, plan.indexes) for it in one.entries])
+            uuids = {it[:16] for it in keys}
+            rows = index_rows([it for one in self.indexed(archives, plan.indexes, uuids) for it in one.entries if it])
         else:
             rows = find_rows(self.join(archives))
         retired = {(key, digest) for key, state, digest in rows if state == "retired"}

@@ -2,15 +2,15 @@
 together."""
 import itertools
 import struct
-from typing import Dict, Iterable, List, NamedTuple, Optional, Sequence
+from typing import Callable, Dict, Iterable, List, NamedTuple, Optional, Sequence, Tuple
 
 from .contents import ADMISSION, END, RETIREMENT, Content, Fault, Reader, Source, Write, entry_of
 from .images import U32_MAX, Image, image_of, sha, slice_of
-from .pages import NO_CLAIM, Claim, claim_at, stored
+from .pages import NO_CLAIM, Changed, Claim, Pages, claim_at, root_of, stored
 from .tables import table_of
 
 IDX, EARLIER_IDX = b"MSYMIDX2", b"MSYMIDX1"
-PLACED_LEN, ENTRY_LEN, END_LEN = 74, 122, 41
+PLACED_LEN, ENTRY_LEN, END_LEN = 74, 122, 57
 
 
 # ---- made
@@ -22,8 +22,13 @@ def placed_entry(record: bytes, at: int) -> bytes:
     return entry_of(record) + bytes([is_companion]) + struct.pack(">QQ", at, len(record))
 
 
+def numbers_of(entries: Sequence[bytes]) -> Tuple[int, int]:
+    """How many of the entries are retirements, and how long their archive is."""
+    return sum(it[0] == RETIREMENT for it in entries), 17 + sum(map(length_in, entries))
+
+
 def end_of(entries: Sequence[bytes]) -> bytes:
-    return bytes([END]) + struct.pack(">Q", len(entries)) + sha(b"".join(entries))
+    return bytes([END]) + struct.pack(">3Q", len(entries), *numbers_of(entries)) + root_of(b"".join(entries))
 
 
 def index_stream(source: Source, write: Write) -> int:
@@ -46,7 +51,7 @@ def index_stream(source: Source, write: Write) -> int:
             done = claim.end
         entries.append(placed_entry(record, at) + claim.bytes())
     entries.sort()
-    write(b"".join(entries) + end_of(entries))
+    write(stored(b"".join(entries)) + end_of(entries))
     return len(entries)
 
 
@@ -128,8 +133,26 @@ def size_of(placed: Placed) -> int:
         raise Fault("Device", 0) from None
 
 
-def read_index(placed: Placed) -> List[bytes]:
-    """The entries of an index, which is read from its end: its magic, the end record and the entries."""
+class Ends(NamedTuple):
+    """The numbers in the end record of an index, and where its entries are stored."""
+
+    entries: int
+    retired: int
+    # How long the archive is.
+    size: int
+    claim: Claim
+
+    @property
+    def first(self) -> int:
+        """Where the first entry begins."""
+        return self.claim.end - self.claim.size
+
+    def number_at(self, number: int) -> int:
+        return self.first + ENTRY_LEN * number
+
+
+def read_ends(placed: Placed) -> Ends:
+    """The magic and the end record of an index."""
     size = size_of(placed)
     beginning = part(placed, 0, min(8, size))
     if beginning == EARLIER_IDX:
@@ -142,21 +165,91 @@ def read_index(placed: Placed) -> List[bytes]:
     end = part(placed, at, END_LEN)
     if end[0] != END:
         raise Fault("Truncated", at)
-    count = int.from_bytes(end[1:9], "big")
-    if len(IDX) + ENTRY_LEN * count + END_LEN > size:
+    count, retired, length = struct.unpack(">3Q", end[1:25])
+    needed = Claim(0, ENTRY_LEN * count, end[25:]).stored
+    if len(IDX) + needed + END_LEN > size or retired > count:
         raise Fault("BadCount", at)
-    start = at - ENTRY_LEN * count
-    text = part(placed, start, ENTRY_LEN * count)
-    if sha(text) != end[9:]:
+    return Ends(count, retired, length, Claim(at - needed, ENTRY_LEN * count, end[25:]))
+
+
+def read_index(placed: Placed) -> List[bytes]:
+    """The entries of an index, which is read from its end: its magic, the end record and the stored entries."""
+    ends = read_ends(placed)
+    start = ends.claim.offset
+    found = part(placed, start, ends.claim.stored)
+    text = found[ends.first - start :]
+    if stored(text) != found or root_of(text) != ends.claim.root:
         raise Fault("BadDigest", start)
     entries = [text[it : it + ENTRY_LEN] for it in range(0, len(text), ENTRY_LEN)]
     for number, entry in enumerate(entries):
         fault = entry_fault(entry, entries[number - 1] if number else b"", start)
         if fault:
-            raise Fault(fault, start + ENTRY_LEN * number)
-    if not are_laid(entries, start):
+            raise Fault(fault, ends.number_at(number))
+    if not are_laid(entries, start) or numbers_of(entries) != (ends.retired, ends.size):
         raise Fault("BadPlace", start)
     return entries
+
+
+def read_all(placed: Placed) -> Tuple[List[bytes], int]:
+    """All entries of an index, and how long the archive is."""
+    entries = read_index(placed)
+    return entries, numbers_of(entries)[1]
+
+
+def read_index_under(placed: Placed, uuids: Iterable[bytes]) -> Tuple[List[bytes], int]:
+    """The entries of an index under these UUIDs, with no bytes in the place of each other entry, and how long the
+    archive is. Only the pages on the way are read."""
+    ends = read_ends(placed)
+    try:
+        read = entries_under(Pages(placed.take, ends.claim), ends, sorted(set(uuids)))
+    except Changed:
+        raise Fault("BadDigest", ends.claim.offset) from None
+    except Failed:
+        raise Fault("Device", ends.claim.offset) from None
+    last = b""
+    for number, entry in read.items():
+        fault = entry_fault(entry, last, ends.claim.offset)
+        if fault or entry[:PLACED_LEN] <= last[:PLACED_LEN]:
+            raise Fault(fault or "NotAscending", ends.number_at(number))
+        last = entry
+    return [read.get(number, b"") for number in range(ends.entries)], ends.size
+
+
+def entries_under(pages: Pages, ends: Ends, uuids: Sequence[bytes]) -> Dict[int, bytes]:
+    """The entries under these UUIDs by their numbers: those of retirements, and then those of admissions."""
+    edge = [number for number in (ends.retired - 1, ends.retired) if 0 <= number < ends.entries]
+    tags = [(number, entry_in(pages, number)[0]) for number in edge]
+    if any(tag != (RETIREMENT if number < ends.retired else ADMISSION) for number, tag in tags):
+        raise Fault("BadPlace", ends.number_at(ends.retired))
+    read: Dict[int, bytes] = {}
+    for tag, at, stop in ((RETIREMENT, 0, ends.retired), (ADMISSION, ends.retired, ends.entries)):
+        for uuid in uuids:
+            run = run_in(pages, bytes([tag]) + uuid, at, stop)
+            read.update((number, entry_in(pages, number)) for number in run)
+            at = run.stop
+    return read
+
+
+def entry_in(pages: Pages, number: int) -> bytes:
+    return pages.read(ENTRY_LEN * number, ENTRY_LEN)
+
+
+def run_in(pages: Pages, begin: bytes, at: int, stop: int) -> range:
+    """The numbers of the entries that begin so, of those up to a number. Their end is sought in 33 entries first."""
+
+    def edge(low: int, high: int, is_below: Callable[[bytes], bool]) -> int:
+        while low < high:
+            middle = (low + high) // 2
+            if is_below(pages.read(ENTRY_LEN * middle, len(begin))):
+                low = middle + 1
+            else:
+                high = middle
+        return low
+
+    start = edge(at, stop, lambda its: its < begin)
+    near = min(start + 33, stop)
+    end = edge(start, near, lambda its: its <= begin)
+    return range(start, end if end < near else edge(near, stop, lambda its: its <= begin))
 
 
 def entry_fault(entry: bytes, last: bytes, end: int) -> Optional[str]:
@@ -199,8 +292,8 @@ class Stale(Exception):
         self.text = "Stale" if number is None else f"Stale at entry {number}"
 
 
-def test_length(entries: Iterable[bytes], placed: Placed) -> None:
-    if size_of(placed) != 17 + sum(map(length_in, entries)):
+def test_length(size: int, placed: Placed) -> None:
+    if size_of(placed) != size:
         raise Stale
 
 
@@ -231,9 +324,9 @@ def part_at(entries: Iterable[bytes], placed: Placed, front: bytes) -> Content:
     return made
 
 
-def parts_at(entries: Sequence[bytes], placed: Placed, fronts: Iterable[bytes]) -> Content:
-    """The join of those of several fronts, if the archive has the length that the entries tell."""
-    test_length(entries, placed)
+def parts_at(entries: Sequence[bytes], size: int, placed: Placed, fronts: Iterable[bytes]) -> Content:
+    """The join of those of several fronts, if the archive has the length that the index tells."""
+    test_length(size, placed)
     made = Content()
     for front in fronts:
         made.join(part_at(entries, placed, front))

@@ -4,15 +4,17 @@ from __future__ import annotations
 
 import struct
 from functools import lru_cache
-from itertools import accumulate, groupby
+from itertools import accumulate
 from typing import Dict, Hashable, Iterable, List, NamedTuple, Optional, Set, Tuple, TypeVar
 
 from .dwarf_frames import MOST_FRAMES, Debug, DebugUnit, SourceFrame, debug_of
 from .dwarf_lines import PathParts, rows_of
 from .dwarf_ranges import aranges_of
-from .pages import MOST_ADDRESSES, Changed, Pages
+from .groups import Groups, differences, grouped
+from .images import image_of
+from .pages import MOST_ADDRESSES, Changed, Pages, text_from
 
-HEAD, RUN, STEP, LOCATION, FILE, TEXT = 56, 8, 8, 20, 12, 8
+HEAD, SCOPE, FILE, TEXT = 56, 20, 12, 8
 NO_LINES = bytes(HEAD)
 T = TypeVar("T", bound=Hashable)
 
@@ -72,85 +74,114 @@ def numbers_of(them: Iterable[T]) -> Dict[T, int]:
     return found
 
 
+def places_of(strings: bytes) -> Dict[bytes, int]:
+    """The numbers of the texts that are strings of the slice, or are after a `_` in one."""
+    found: Dict[bytes, int] = {}
+    before = 0
+    for it in strings.split(b"\0"):
+        if before < len(strings):
+            found.setdefault(it, before + 1)
+        if it[:1] == b"_" and before + 1 < len(strings):
+            found.setdefault(it[1:], before + 2)
+        before += len(it) + 1
+    return found
+
+
+class Scope(NamedTuple):
+    """A frame without its line and column, and the frames that it is inlined into."""
+
+    name: Optional[bytes]
+    parts: Optional[PathParts]
+    callers: Chain
+
+
+def scope_of(chain: Chain) -> Scope:
+    return Scope(chain[0].name, chain[0].parts, chain[1:])
+
+
 class Parts:
-    """What a line table has, with the numbers of its chains, paths and texts."""
+    """What a line table has, with the numbers of its scopes, paths and texts."""
 
-    def __init__(self, steps: List[Step]) -> None:
-        self.steps = steps
-        self.chains = numbers_of(step.frames[at:] for step in steps for at in reversed(range(len(step.frames))))
-        self.files = numbers_of(chain[0].parts for chain in self.chains if chain[0].parts is not None)
-        names = [chain[0].name for chain in self.chains if chain[0].name is not None]
-        self.texts = numbers_of([*names, *(text for parts in self.files for text in parts)])
+    def __init__(self, strings: bytes, steps: List[Step]) -> None:
+        self.steps, self.before, self.placed = steps, len(strings), places_of(strings)
+        chains = (step.frames[at:] for step in steps for at in reversed(range(len(step.frames))))
+        self.scopes = numbers_of(map(scope_of, chains))
+        self.files = numbers_of(it.parts for it in self.scopes if it.parts is not None)
+        names = [it.name for it in self.scopes if it.name is not None]
+        texts = [*names, *(text for parts in self.files for text in parts)]
+        self.texts = numbers_of(it for it in texts if it not in self.placed)
 
-    def runs(self) -> List[bytes]:
-        lengths = [(upper, len(list(them))) for upper, them in groupby(it.start >> 32 for it in self.steps)]
-        ends = accumulate(length for _, length in lengths)
-        return [struct.pack(">2I", upper, end) for (upper, _), end in zip(lengths, ends)]
+    def text(self, it: bytes) -> int:
+        return self.placed[it] if it in self.placed else self.before + self.texts[it]
 
-    def step(self, it: Step) -> bytes:
-        return struct.pack(">2I", it.start & 0xFFFFFFFF, self.chains[it.frames] if it.frames else 0)
+    def step(self, it: Step) -> Tuple[int, int, int, int]:
+        """What a step says: its start, and its scope, line and column, or zeros if it has no frames."""
+        if not it.frames:
+            return it.start, 0, 0, 0
+        return it.start, self.scopes[scope_of(it.frames)], it.frames[0].line, it.frames[0].column
 
-    def location(self, chain: Chain) -> bytes:
-        frame, callers = chain[0], chain[1:]
-        name = 0 if frame.name is None else self.texts[frame.name]
-        file = 0 if frame.parts is None else self.files[frame.parts]
-        caller = self.chains[callers] if callers else 0
-        return struct.pack(">5I", name, file, frame.line, frame.column, caller)
+    def scope(self, it: Scope) -> bytes:
+        name = 0 if it.name is None else self.text(it.name)
+        file = 0 if it.parts is None else self.files[it.parts]
+        if not it.callers:
+            return struct.pack(">5I", name, file, 0, 0, 0)
+        call = it.callers[0]
+        return struct.pack(">5I", name, file, call.line, call.column, self.scopes[scope_of(it.callers)])
 
     def file(self, parts: PathParts) -> bytes:
-        return struct.pack(">3I", *(self.texts[text] for text in parts))
+        return struct.pack(">3I", *map(self.text, parts))
 
     def text_rows(self) -> List[bytes]:
         places = [0, *accumulate(map(len, self.texts))]
         return [struct.pack(">2I", place, len(text)) for place, text in zip(places, self.texts)]
 
-    def bytes(self) -> bytes:
+    def bytes(self) -> Optional[bytes]:
+        """The table; None if a number is too large."""
+        groups, steps = grouped(list(map(self.step, self.steps)), lambda row: row[0], differences)
         texts = b"".join(self.texts)
-        runs = self.runs()
-        counts = (len(runs), len(self.steps), len(self.chains), len(self.files), len(self.texts), len(texts))
-        rows = [*runs, *map(self.step, self.steps), *map(self.location, self.chains), *map(self.file, self.files)]
-        return struct.pack(">7Q", 1, *counts) + b"".join([*rows, *self.text_rows()]) + texts
+        counts = len(self.steps), len(steps), len(self.scopes), len(self.files), len(self.texts), len(texts)
+        if max(*counts, self.before + len(self.texts)) >= 1 << 32:
+            return None
+        rows = [groups, steps, *map(self.scope, self.scopes), *map(self.file, self.files), *self.text_rows()]
+        return struct.pack(">7Q", 1, *counts) + b"".join([*rows, texts])
 
 
-def fitting(room: int, steps: List[Step]) -> Optional[bytes]:
+def fitting(room: int, strings: bytes, steps: List[Step]) -> Optional[bytes]:
     """The table of some steps, if it has at most so many bytes, and each of its numbers fits its own."""
-    try:
-        table = Parts(steps).bytes()
-    except struct.error:
-        return None
-    return table if len(table) <= room else None
+    table = Parts(strings, steps).bytes()
+    return table if table is not None and len(table) <= room else None
 
 
 @lru_cache(maxsize=20000)
 def line_table_of(slice_bytes: bytes) -> bytes:
     """The line table of a slice."""
-    return fitting(max(HEAD, 4 * len(slice_bytes)), frame_steps(debug_of(slice_bytes))) or NO_LINES
+    strings = image_of(slice_bytes).strings()
+    return fitting(max(HEAD, 4 * len(slice_bytes)), strings, frame_steps(debug_of(slice_bytes))) or NO_LINES
 
 
 # ---- asked
 
 
 class LineTable:
-    """A line table that has lines: where it stands among stored bytes, which it ends, and how many it has of each
-    part."""
+    """A line table that has lines: where it stands among stored bytes, which it ends, where the strings of the slice
+    stand, and how many it has of each part."""
 
-    def __init__(self, pages: Pages, offset: int, counts: Tuple[int, ...]) -> None:
-        self.pages = pages
-        self.runs, self.steps, self.locations, self.files, self.texts, self.bytes = counts
-        self.first_run = offset + HEAD
-        self.first_step = self.first_run + RUN * self.runs
-        self.first_location = self.first_step + STEP * self.steps
-        self.first_file = self.first_location + LOCATION * self.locations
+    def __init__(self, pages: Pages, strings: Tuple[int, int], offset: int, counts: Tuple[int, ...]) -> None:
+        self.pages, self.strings = pages, strings
+        steps, step_bytes, self.scopes, self.files, self.texts, self.bytes = counts
+        self.steps = Groups(pages, offset + HEAD, steps, step_bytes)
+        self.first_scope = self.steps.end
+        self.first_file = self.first_scope + SCOPE * self.scopes
         self.first_text = self.first_file + FILE * self.files
         self.first_byte = self.first_text + TEXT * self.texts
         if pages.claim.size != self.first_byte + self.bytes:
             raise Changed
 
     @staticmethod
-    def opened(pages: Pages, offset: int) -> Optional[LineTable]:
-        """The line table that stands there; None where it has no lines."""
+    def opened(pages: Pages, strings: Tuple[int, int], offset: int) -> Optional["LineTable"]:
+        """The line table that stands there, with the strings from a place on; None where it has no lines."""
         has_lines, *counts = struct.unpack(">7Q", pages.read(offset, HEAD))
-        return LineTable(pages, offset, tuple(counts)) if has_lines else None
+        return LineTable(pages, strings, offset, tuple(counts)) if has_lines else None
 
     def row(self, form: str, first: int, number: int, count: int) -> Tuple[int, ...]:
         """The row of a number among so many that stand from an offset on, which are numbered from 1 on."""
@@ -160,7 +191,10 @@ class LineTable:
         return struct.unpack(form, self.pages.read(first + size * (number - 1), size))
 
     def text(self, number: int) -> bytes:
-        place, size = self.row(">2I", self.first_text, number, self.texts)
+        first, length = self.strings
+        if 1 <= number <= length:
+            return text_from(self.pages, first + number - 1, first + length)
+        place, size = self.row(">2I", self.first_text, number - length, self.texts)
         if place + size > self.bytes:
             raise Changed
         return self.pages.read(self.first_byte + place, size)
@@ -168,51 +202,31 @@ class LineTable:
     def path(self, number: int) -> PathParts:
         return PathParts(*map(self.text, self.row(">3I", self.first_file, number, self.files)))
 
-    def last_run(self, upper: int) -> int:
-        """The number of the last run whose upper half is not above this one, found by halving; 0 if there is none."""
-        low, high = 0, self.runs
-        while low < high:
-            middle = (low + high) // 2
-            if self.row(">2I", self.first_run, middle + 1, self.runs)[0] <= upper:
-                low = middle + 1
-            else:
-                high = middle
-        return low
-
-    def run(self, number: int) -> Tuple[int, int]:
-        """The upper half of a run, and how many steps there are up to its last."""
-        upper, steps = self.row(">2I", self.first_run, number, self.runs)
-        if steps > self.steps:
+    def step_for(self, address: int) -> Tuple[int, int, int]:
+        """The scope, line and column of the last step that starts at an address or below it; zeros without any."""
+        numbers = self.steps.found(address)
+        step, answer = (0, 0, 0, 0), (0, 0, 0)
+        while numbers and not numbers.are_read:
+            start, scope, line, column = (old + numbers.signed() for old in step)
+            step = start % MOST_ADDRESSES, scope % MOST_ADDRESSES, line % MOST_ADDRESSES, column % MOST_ADDRESSES
+            if step[0] > address:
+                break
+            answer = step[1:]
+        if max(answer) >= 1 << 32:
             raise Changed
-        return upper, steps
-
-    def location_for(self, address: int) -> int:
-        """The number of the location of the last step that starts at an address or below it: one of the last run
-        that is not above it, found by halving, or the last one before them."""
-        number = self.last_run(address >> 32)
-        if not number:
-            return 0
-        upper, high = self.run(number)
-        low = self.run(number - 1)[1] if number > 1 else 0
-        if upper < address >> 32:
-            low = high
-        while low < high:
-            middle = (low + high) // 2
-            if self.row(">2I", self.first_step, middle + 1, self.steps)[0] <= address & 0xFFFFFFFF:
-                low = middle + 1
-            else:
-                high = middle
-        return self.row(">2I", self.first_step, low, self.steps)[1] if low else 0
+        return answer
 
     def frames(self, address: int) -> List[SourceFrame]:
-        """The frames of an address, the innermost first: of each location and of its callers, whose numbers fall."""
+        """The frames of an address, the innermost first: of each scope and of its callers, whose numbers fall."""
         frames: List[SourceFrame] = []
-        number = self.location_for(address)
+        number, line, column = self.step_for(address)
         while number:
-            name, file, line, column, caller = self.row(">5I", self.first_location, number, self.locations)
-            if caller >= number or len(frames) == MOST_FRAMES:
+            if len(frames) == MOST_FRAMES:
+                raise Changed
+            name, file, *call, caller = self.row(">5I", self.first_scope, number, self.scopes)
+            if caller >= number:
                 raise Changed
             parts = self.path(file) if file else None
             frames.append(SourceFrame(self.text(name) if name else None, parts, line, column))
-            number = caller
+            number, (line, column) = caller, call
         return frames

@@ -5,7 +5,7 @@ from typing import Callable, Dict, List, NamedTuple, Tuple
 
 from .images import sha
 
-PAGE, DIGEST = 4096, 32
+PAGE, DIGEST, PIECE = 4096, 32, 64
 MOST_ADDRESSES = 1 << 64
 
 # What gives so many bytes from an offset on, as many as there are.
@@ -110,3 +110,16 @@ class Pages:
                 raise Changed
             found += self.page(0, at // PAGE)[at % PAGE :][: count - len(found)]
         return found
+
+
+def text_from(pages: Pages, at: int, end: int) -> bytes:
+    """What stands from a place on, up to a NUL or an end, read piece by piece."""
+    text = b""
+    while at < end:
+        piece = pages.read(at, min(PIECE, end - at))
+        part, nul, _ = piece.partition(b"\0")
+        text += part
+        if nul:
+            break
+        at += len(piece)
+    return text

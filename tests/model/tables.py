@@ -5,11 +5,10 @@ from typing import Dict, List, NamedTuple, Optional, Tuple
 
 from .images import Candidate, Image, image_of
 from .line_tables import LineTable, line_table_of
-from .pages import MOST_ADDRESSES, Changed, Claim, Pages, Take
+from .pages import MOST_ADDRESSES, Changed, Claim, Pages, Take, text_from
 
 HEAD, SECTION, ROW = 48, 32, 21
 MOST_SECTIONS = 255
-PIECE = 64
 
 # ---- made
 
@@ -70,7 +69,7 @@ class Table:
 
     def lines(self) -> Optional[LineTable]:
         """The line table, with its head; None where it has no lines."""
-        return LineTable.opened(self.pages, self.first_line)
+        return LineTable.opened(self.pages, (self.first_string, self.strings), self.first_line)
 
     def row_for(self, address: int) -> Optional[Tuple[int, int, int]]:
         """What the last row says that begins at an address or below it, found by halving."""
@@ -85,16 +84,8 @@ class Table:
         return found
 
     def name_at(self, place: int) -> bytes:
-        """The name from a place of the strings on, read piece by piece."""
-        name = b""
-        while place < self.strings:
-            piece = self.pages.read(self.first_string + place, min(PIECE, self.strings - place))
-            part, nul, _ = piece.partition(b"\0")
-            name += part
-            if nul:
-                break
-            place += len(piece)
-        return name
+        """The name from a place of the strings on."""
+        return text_from(self.pages, self.first_string + place, self.first_line)
 
     def section_names(self, sect: int) -> Tuple[bytes, bytes]:
         if not 1 <= sect <= self.sections:

@@ -6,7 +6,7 @@ import uuid
 from typing import Dict, Iterable, Iterator, List, Optional, Sequence, Tuple
 
 from ..model.images import sha
-from ..model.indexes import EARLIER_IDX, entries_in, index_of
+from ..model.indexes import EARLIER_IDX, claim_in, entries_in, index_of
 from ..model.pages import Claim
 
 Arch = Tuple[int, int]
@@ -165,13 +165,25 @@ def index_of_wide_pages(text: bytes) -> bytes:
             entry = entry[:74] + struct.pack(">2Q", len(tables), size) + sha(digests)
             tables += digests + table
         made.append(entry)
-    entries = b"".join(sorted(made))
-    return bytes(tables) + entries + b"\3" + struct.pack(">Q", len(made)) + sha(entries)
+    return bytes(tables) + plain_end(made)
+
+
+def plain_end(made: Iterable[bytes]) -> bytes:
+    """Entries and an end record as they were before entries were stored in pages."""
+    entries = sorted(made)
+    return b"".join(entries) + b"\3" + struct.pack(">Q", len(entries)) + sha(b"".join(entries))
+
+
+def index_without_pages(text: bytes) -> bytes:
+    """The index of an archive as it was before entries were stored in pages."""
+    index = index_of(text)
+    entries = entries_in(index)
+    return index[: max([len(EARLIER_IDX), *(claim_in(entry).end for entry in entries)])] + plain_end(entries)
 
 
 def index_of_2_3(text: bytes) -> bytes:
     """The index of an archive as releases before 2.4 wrote it, if no frame in it changed."""
-    return EARLIER_IDX + index_of(text)[len(EARLIER_IDX) :]
+    return EARLIER_IDX + index_without_pages(text)[len(EARLIER_IDX) :]
 
 
 def digest_of(made: bytes) -> str:

@@ -46,7 +46,7 @@ COMMANDS = [
     Command("apply empty.sym out one.ops", "applied: 1 new, 0 known\narchive: 1 records, 106 bytes", out=ONE),
     Command("summary empty.sym out", "summary: 0 entries, 17 bytes", out=EMPTY_SUM),
     Command("delta one.sym empty.sum out", "archive: 1 records, 106 bytes", out=ONE),
-    Command("index one.sym out", "index: 1 entries, 275 bytes", out=index([IMAGE])),
+    Command("index one.sym out", "index: 1 entries, 291 bytes", out=index([IMAGE])),
     Command(f"extract one.sym {KEY} out", f"slice {ROW}, 56 bytes", out=IMAGE),
     Command(f"find one.sym {UUID}", f"x86_64 image {DIGEST}"),
     Command("list one.sym", f"{KEY} image {DIGEST}"),

@@ -11,8 +11,8 @@ from .console.faults import CutShort, Failed, system_text
 from .console.progress import progress
 from .console.screen import Screen
 from .console.signals import Stopped, signals
+from .console.streams import help_form
 from .console.unforeseen_faults import DEBUG, HELP, debugging, guarded, unforeseen
-from .console.widths import help_form
 from .store.file_names import is_archive
 
 DESCRIPTION = """\

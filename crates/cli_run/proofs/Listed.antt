@@ -5,7 +5,7 @@ use Rattle.command_common.specs.{Asked.prints_rows, Asked.writes_summary, Ends.E
 use Rattle.command_common.specs.{Outputs.Outs, Outputs.Writer, Outputs.out_of, Records.rows_listed, Records.summary_held}
 use Rattle.command_common.specs.Asked as asked
 use Rattle.command_common.specs.declared.faults.{CommandFault.CommandFault, Status.Status}
-use Rattle.command_given_indexes.specs.Answered.{of_first_pair, rows_at, summary_told}
+use Rattle.command_given_indexes.specs.Answered.{of_first_pair, rows_listed as rows_by_index, summary_told}
 use Rattle.cli_run.specs.Plans.{EndsAsked, EndsDeed, listed_of, summarized_of}
 
 module _ {S : Type 0} (left whole : S → Option (List ℕ)) (failures place_failures : S → ℕ) (report : Writer) (result : Result Status CommandFault) where
@@ -20,7 +20,7 @@ module _ {S : Type 0} (left whole : S → Option (List ℕ)) (failures place_fai
 
   pub listed_by_indexes : (archives now indexes after : List S) → 0 < length archives → length now ≡ length archives
       → 0 < length indexes → length after ≡ length indexes
-      → EndsReport (prints_rows list_lines (of_first_pair (λ index archive. rows_at index archive [])
+      → EndsReport (prints_rows list_lines (of_first_pair (λ index archive. rows_by_index index archive)
       (readers whole place_failures indexes after) (readers whole place_failures archives now))) report result
       → EndsAsked (listed_of (readers left failures archives now) (readers whole place_failures archives now)
       (readers whole place_failures indexes after)) report result

@@ -1,6 +1,6 @@
 -- No command tells of an input that it could not be opened: that is told of the device's fault that it comes as.
 use Rattle.std.proofs.Common.{ℕ, Bool, true, false, List, [], ◌∷◌, length, if◌then◌else◌, Option, Ok, Err, inl, inr}
-use Rattle.std.specs.Prelude.{nat_lt}
+use Rattle.std.specs.Prelude.{◌⊎◌, nat_lt}
 use Rattle.archive_core.specs.declared.keys.{Digest.Digest, SliceKey.SliceKey}
 use Rattle.archive_records.specs.declared.fault.MergeCause.{MergeCause}
 use Rattle.archive_records.specs.declared.fault.MergeCause.TheVariants.{Left, Right, Write}
@@ -27,10 +27,11 @@ use Rattle.index_format.specs.declared.fault.IndexingFault.TheVariants.{Archive 
 use Rattle.index_build.specs.Index.{TellsRefusal, TellsStop, index as index_of}
 use Rattle.index_build.specs.declared.fault.MakingFault.{MakingFault}
 use Rattle.index_build.specs.declared.fault.MakingFault.TheVariants.{Archive as Refused, Write as Wrote}
-use Rattle.command_given_indexes.specs.{Indexes.IsOfOtherLength, Indexes.IsRefusedByIndex, Several.AreRefusedLater, Several.AreRefusedTogether}
+use Rattle.command_given_indexes.specs.{Indexes.IsOfOtherLength, Indexes.IsRefusedByIndex, Indexes.IsRefusedByPart}
+use Rattle.command_given_indexes.specs.{Several.AreRefusedLater, Several.AreRefusedTogether}
 use Rattle.command_given_indexes.specs.Together.{IsFirstRefusedByIndex, IsRefusedAtPlaces}
 use Rattle.text_input_files.specs.declared.frame.Frame.{Frame}
-use Rattle.command_frames.specs.Asking.{AreRefusedAsking, IsTableRefused}
+use Rattle.command_frames.specs.Asking.{AreRefusedAsking, AreUnread, AreUntold, IsTableRefused}
 use Rattle.command_frames.specs.Frames.{frames_at, frames_by_indexes, symbolicate_at}
 use Rattle.command_given_indexes.specs.Find.{find_by}
 use Rattle.command_extract.specs.{Entries.IsRefusedSlice, Extract.Extraction, Extract.Extracts, Indexed.AreRefusedBefore, Indexed.extract_at}
@@ -93,48 +94,58 @@ making : (fault : MakingFault) (at : InputName) → TellsStop fault (Input at Ca
 making (Refused fault) at r = indexing fault at r
 making (Wrote fault) at r = cc
 
+other_length : {S : Type 0} (number : ℕ) (archive : Reader S) (size : ℕ) → Spares (IsOfOtherLength number archive size)
+other_length number archive size at (inl unread) = unread.1
+other_length number archive size at (inr stale) = cc stale.2
+
 by_index : {R S : Type 0} (number : ℕ) (index : Reader R) (archive : Reader S)
     → Spares (IsRefusedByIndex number index archive)
 by_index number index archive at (inl r) = cc r.1.1
-by_index number index archive at (inr r) = of_length r.3
-  where
-    of_length : IsOfOtherLength number archive r.0 at CannotOpen → ⊥
-    of_length (inl unread) = unread.1
-    of_length (inr stale) = cc stale.2
+by_index number index archive at (inr r) = other_length number archive _ at r.3
 
-by_indexes : {I P : Type 0} (indexes : List (Reader I)) (archives : List (Reader P))
-    → Spares (IsFirstRefusedByIndex indexes archives)
-by_indexes indexes archives at r = by_index r.number r.index r.archive at r.refused
+by_part : {R S : Type 0} (uuids : List (List ℕ)) (number : ℕ) (index : Reader R) (archive : Reader S)
+    → Spares (IsRefusedByPart uuids number index archive)
+by_part uuids number index archive at (inl r) = cc r.1.1
+by_part uuids number index archive at (inr r) = other_length number archive r.1 at r.4
 
-later : {I P : Type 0} (prefixes : List (List ℕ)) (indexes : List (Reader I)) (archives : List (Reader P))
-    → Spares (AreRefusedLater prefixes indexes archives)
-later prefixes indexes archives at r = go r.refused.refused
+by_indexes : {I P : Type 0} (uuids : List (List ℕ)) (indexes : List (Reader I)) (archives : List (Reader P))
+    → Spares (IsFirstRefusedByIndex uuids indexes archives)
+by_indexes uuids indexes archives at r = by_part uuids r.number r.index r.archive at r.refused
+
+later : {I P : Type 0} (uuids prefixes : List (List ℕ)) (indexes : List (Reader I)) (archives : List (Reader P))
+    → Spares (AreRefusedLater uuids prefixes indexes archives)
+later uuids prefixes indexes archives at r = go r.refused.refused
   where
-    go : IsRefusedAtPlaces prefixes r.refused.number r.refused.archive r.refused.entries at CannotOpen → ⊥
+    go : IsRefusedAtPlaces prefixes r.refused.number r.refused.archive r.refused.entries r.refused.size at CannotOpen → ⊥
     go (inl unread) = unread.1
     go (inr stale) = cc stale.2.1
 
-of_several : {I P : Type 0} (prefixes : List (List ℕ)) (indexes : List (Reader I)) (archives : List (Reader P))
-    → Spares (AreRefusedTogether prefixes indexes archives)
-of_several prefixes indexes archives at (inl r) = by_indexes indexes archives at r
-of_several prefixes indexes archives at (inr r) = later prefixes indexes archives at r
+of_several : {I P : Type 0} (uuids prefixes : List (List ℕ)) (indexes : List (Reader I)) (archives : List (Reader P))
+    → Spares (AreRefusedTogether uuids prefixes indexes archives)
+of_several uuids prefixes indexes archives at (inl r) = by_indexes uuids indexes archives at r
+of_several uuids prefixes indexes archives at (inr r) = later uuids prefixes indexes archives at r
 
 found_by : {I P : Type 0} (indexes : List (Reader I)) (archives : List (Reader P)) (uuid : List ℕ)
     → Spares (find_by indexes archives uuid).Refuses
-found_by (index ∷ []) (archive ∷ []) uuid at r = by_index 0 index archive at r
-found_by indexes archives uuid at r = of_several _ indexes archives at r
+found_by (index ∷ []) (archive ∷ []) uuid at r = by_part _ 0 index archive at r
+found_by indexes archives uuid at r = of_several _ _ indexes archives at r
 
 asking : {I P : Type 0} (lines slices : Bool) (frames : List Frame) (indexes : List (Reader I))
     (archives : List (Reader P)) → Spares (AreRefusedAsking lines slices frames indexes archives)
-asking lines slices frames indexes archives at (inl r) = by_indexes indexes archives at r
-asking lines slices frames indexes archives at (inr (inl r)) = later (r.key ∷ []) indexes archives at r.refused
-asking lines slices frames indexes archives at (inr (inr r)) = go slices r.untold.untold
+asking lines slices frames indexes archives at r = why r.1 r.3
   where
-    go : (wanted : Bool) → IsTableRefused lines wanted indexes r.untold.places r.untold.answering at CannotOpen → ⊥
-    go false (inl changed) = cc changed.why_is
-    go false (inr (inl lineless)) = cc lineless.why_is
-    go false (inr (inr unread)) = cc unread.why_is
-    go true unread = cc unread.why_is
+    why : (uuids : List (List ℕ)) → IsFirstRefusedByIndex uuids indexes archives at CannotOpen
+        ⊎ AreUnread lines slices uuids frames indexes archives at CannotOpen
+        ⊎ AreUntold lines slices uuids frames indexes archives at CannotOpen → ⊥
+    why uuids (inl first) = by_indexes uuids indexes archives at first
+    why uuids (inr (inl unread)) = later uuids (unread.key ∷ []) indexes archives at unread.refused
+    why uuids (inr (inr untold)) = go slices untold.untold.untold
+      where
+        go : (wanted : Bool) → IsTableRefused lines wanted indexes untold.untold.places untold.untold.answering at CannotOpen → ⊥
+        go false (inl changed) = cc changed.why_is
+        go false (inr (inl lineless)) = cc lineless.why_is
+        go false (inr (inr unread)) = cc unread.why_is
+        go true unread = cc unread.why_is
 
 -- a command that writes a slice, where that of its writing is
 extracted : {D T : Type 0} (command : Extraction) (out : Outs D T) (report : Writer) (at : InputName)
@@ -187,8 +198,8 @@ stops_at : {S : Type 0} (indexes places : List (Reader S)) (key : SliceKey) (dig
 stops_at indexes places key digest draft at (inl r) = before r.0
   where
     before : AreRefusedBefore indexes places key at CannotOpen → ⊥
-    before (inl by) = by_indexes indexes places at by
-    before (inr tied) = later _ indexes places at tied.0
+    before (inl by) = by_indexes (key.uuid ∷ []) indexes places at by
+    before (inr tied) = later (key.uuid ∷ []) _ indexes places at tied.0
 stops_at indexes places key digest draft at (inr r) = sent r.stops.hinders.0
   where
     sent : IsRefusedSlice r.archive r.x at CannotOpen → ⊥

@@ -19,8 +19,9 @@ use Rattle.index_lookup.specs.Among.{AreTied, EntryAt, IsAmong}
 use Rattle.index_lookup.specs.Named.{IsRowAt}
 use Rattle.index_lookup.specs.declared.named.NamedSlice.{NamedSlice}
 use Rattle.command_given_indexes.specs.Several.{AreRefusedLater, AreUnfailedTogether, HoldTogether}
-use Rattle.command_given_indexes.specs.Together.{AreAllKept, AreLater, AreReadWith, HoldNamed, IsFirstRefusedAtPlaces, IsFirstRefusedByIndex, IsKept, IsOneOf}
-use Rattle.command_given_indexes.proofs.Groups.{as_many, later_readers, one_of, read_earlier, unfailed_through}
+use Rattle.command_given_indexes.specs.Together.{AreAllKept, AreLater, AreReadWith, HaveLengths, HoldNamed}
+use Rattle.command_given_indexes.specs.Together.{IsFirstRefusedAtPlaces, IsFirstRefusedByIndex, IsKept, IsOneOf}
+use Rattle.command_given_indexes.proofs.Groups.{as_many, later_readers, lengths_earlier, one_of, read_earlier, unfailed_through}
 use Rattle.command_extract.specs.Entries.{AreUnchosen, IsChosen, StopsSlice}
 use Rattle.command_extract.specs.Evidence.{Chooses, IsChosenFor, IsStoppedSending, LacksSlices, Sends, StopsBefore}
 use Rattle.command_extract.specs.Extract.{Extraction}
@@ -51,27 +52,33 @@ pub named_there : {I P : Type 0} (indexes : List (Reader I)) (whole : P → Opti
     → named.input < length seen
 named_there indexes whole failures before seen key digest named by =
     let long = AllZip-long (IsKept whole failures) before seen by.kept in
-    omega (arith, archive_there key digest by.all by.x by.chosen, as_many indexes whole failures before seen by.all by.read long, by.names.input_is)
+    let many = as_many (key.uuid ∷ []) indexes whole failures before seen by.all by.read long in
+    omega (arith, archive_there key digest by.all by.x by.chosen, many, by.names.input_is)
 
 -- an index was refused
 pub refused_first : {I P : Type 0} (indexes : List (Reader I)) (archives : List (Reader P)) (key : SliceKey)
-    (digest : Option Digest) (fault : CommandFault)
-    → IsRefusal (IsFirstRefusedByIndex indexes archives) (EachUnfailed indexes × EachUnfailed archives) fault
+    (digest : Option Digest) (fault : CommandFault) (uuid : List ℕ) → uuid ≡ key.uuid
+    → IsRefusal (IsFirstRefusedByIndex (uuid ∷ []) indexes archives) (EachUnfailed indexes × EachUnfailed archives) fault
     → IsRefusal (λ at why. StopsBefore (extract_at indexes archives key digest) (Input at why))
     (StopsBefore (extract_at indexes archives key digest) OutOfMemory) fault
-refused_first indexes archives key digest fault r =
-    refusal_of (IsFirstRefusedByIndex indexes archives) (λ at why. StopsBefore (extract_at indexes archives key digest) (Input at why))
+refused_first indexes archives key digest fault uuid same r =
+    refusal_of (IsFirstRefusedByIndex (uuid ∷ []) indexes archives) (λ at why. StopsBefore (extract_at indexes archives key digest) (Input at why))
     (AreUnfailedTogether indexes archives) (StopsBefore (extract_at indexes archives key digest) OutOfMemory) fault
-    (λ at why first draft took. inl (inl first, took)) (λ u draft took. inl (u, took)) r
+    (λ at why first draft took. inl (inl (subst (λ (u : List ℕ). IsFirstRefusedByIndex (u ∷ []) indexes archives at why) same first), took))
+    (λ u draft took. inl (u, took)) r
+
+-- the indexes were read under the UUID of the key
+pub read_under : {I P : Type 0} (indexes : List (Reader I)) (archives : List (Reader P)) (key : SliceKey) (uuid : List ℕ)
+    (all : List (List (List ℕ))) → uuid ≡ key.uuid → AreReadWith (uuid ∷ []) indexes archives all → AreReadWith (key.uuid ∷ []) indexes archives all
+read_under indexes archives key uuid all same read = subst (λ (u : List ℕ). AreReadWith (u ∷ []) indexes archives all) same read
 
 -- ---- after the indexes were read
 
 module _ {I P : Type 0} (indexes : List (Reader I)) (whole : P → Option (List ℕ)) (failures : P → ℕ) (before seen after : List P)
-    (all : List (List (List ℕ))) (more : length after ≡ length seen)
-    (read : AreReadWith indexes (readers whole failures before seen) all)
+    (all : List (List (List ℕ))) (more : length after ≡ length seen) (key : SliceKey)
+    (read : AreReadWith (key.uuid ∷ []) indexes (readers whole failures before seen) all)
     (unfailed : AreUnfailedTogether indexes (readers whole failures before seen))
-    (kept : AreAllKept whole failures before seen)
-    (key : SliceKey) (digest : Option Digest) where
+    (kept : AreAllKept whole failures before seen) (digest : Option Digest) where
   abbrev known : List (Reader P)
   known = readers whole failures before after
 
@@ -84,8 +91,8 @@ module _ {I P : Type 0} (indexes : List (Reader I)) (whole : P → Option (List 
   long : length seen ≡ length before
   long = AllZip-long (IsKept whole failures) before seen kept
 
-  read_all : AreReadWith indexes known all
-  read_all = read_earlier whole failures indexes before seen after all long (more ∙ long) read
+  read_all : AreReadWith (key.uuid ∷ []) indexes known all
+  read_all = read_earlier whole failures (key.uuid ∷ []) indexes before seen after all long (more ∙ long) read
 
   are_later : AreLater known later
   are_later = later_readers whole failures before seen after more kept
@@ -110,21 +117,31 @@ module _ {I P : Type 0} (indexes : List (Reader I)) (whole : P → Option (List 
   -- ---- entries are tied
 
   -- an archive was refused
-  pub refused_later : (tied : AreTied (key_bytes key) all) (fault : CommandFault)
-      → IsRefusal (IsFirstRefusedAtPlaces (key_bytes key ∷ []) later all) (EachUnfailed later) fault
+  pub refused_later : (sizes : List ℕ) → HaveLengths (readers whole failures before seen) sizes → (tied : AreTied (key_bytes key) all)
+      (fault : CommandFault)
+      → IsRefusal (IsFirstRefusedAtPlaces (key_bytes key ∷ []) later all sizes) (EachUnfailed later) fault
       → IsRefusal (λ at why. StopsBefore command (Input at why)) (StopsBefore command OutOfMemory) fault
-  refused_later tied fault r =
-      refusal_of (IsFirstRefusedAtPlaces (key_bytes key ∷ []) later all) (λ at why. StopsBefore command (Input at why)) (EachUnfailed later)
+  refused_later sizes lengths tied fault r =
+      refusal_of (IsFirstRefusedAtPlaces (key_bytes key ∷ []) later all sizes) (λ at why. StopsBefore command (Input at why)) (EachUnfailed later)
       (StopsBefore command OutOfMemory) fault
       (λ at why first draft took.
-      let told : AreRefusedLater (key_bytes key ∷ []) indexes known at why =
-      record { all = all; read = read_all; unfailed = unfailed.0; later = later; are_later = are_later; refused = first } in
+      let told : AreRefusedLater (key.uuid ∷ []) (key_bytes key ∷ []) indexes known at why =
+      record {
+        all = all;
+        read = read_all;
+        sizes = sizes;
+        lengths = lengths_earlier whole failures before seen after sizes long (more ∙ long) lengths;
+        unfailed = unfailed.0;
+        later = later;
+        are_later = are_later;
+        refused = first;
+      } in
       inl (inr (told, tied), took)) wanting r
 
   -- what is true of a content that is alike is true of what is held
   module _ (none : digest ≡ None) (tied : AreTied (key_bytes key) all) (o : Operations)
       (named : HoldNamed (key_bytes key ∷ []) later all o) (each : EachUnfailed later) where
-    abbrev held : HoldTogether (key_bytes key ∷ []) indexes known o
+    abbrev held : HoldTogether (key.uuid ∷ []) (key_bytes key ∷ []) indexes known o
     held = record { all = all; read = read_all; later = later; are_later = are_later; named = named }
 
     pub tied_so : (number : ℕ) (given : Digest) (size : ℕ) → ChoosesIn o key None number given size
@@ -147,7 +164,7 @@ module _ {I P : Type 0} (indexes : List (Reader I)) (whole : P → Option (List 
     archive = reader whole failures old new
 
     within : x.input < length seen
-    within = omega (arith, archive_there key digest all x chosen, as_many indexes whole failures before seen all read long)
+    within = omega (arith, archive_there key digest all x chosen, as_many (key.uuid ∷ []) indexes whole failures before seen all read long)
 
     pub chosen_from : IsChosenFrom indexes known key digest x archive
     chosen_from = record {
@@ -199,8 +216,8 @@ pub sent_so : {I P : Type 0} (indexes : List (Reader I)) (whole : P → Option (
 sent_so indexes whole failures before seen after more key digest named by draft (Ok _) (old, new, old_is, after_is, (slice, holds, took, one)) =
     let known = readers whole failures before after in
     let archive = reader whole failures old new in
-    let from = chosen_from indexes whole failures before seen after by.all more by.read by.unfailed by.kept key digest by.x by.chosen old new old_is after_is in
-    let unfailed = unfailed_sent indexes whole failures before seen after by.all more by.read by.unfailed by.kept key digest by.x by.chosen old new old_is
+    let from = chosen_from indexes whole failures before seen after by.all more key by.read by.unfailed by.kept digest by.x by.chosen old new old_is after_is in
+    let unfailed = unfailed_sent indexes whole failures before seen after by.all more key by.read by.unfailed by.kept digest by.x by.chosen old new old_is
     after_is one in
     let makes : MakesEntry indexes known key digest slice (line_of key named.row.digest named.size) =
     record { x = by.x; archive = archive; from = from; holds = holds; told_is = same_line key named by.x slice by.names holds.of } in
@@ -212,16 +229,16 @@ sent_so indexes whole failures before seen after more key digest named by draft 
       took = took;
     }
 sent_so indexes whole failures before seen after more key digest named by draft (Err fault) (old, new, old_is, after_is, stops) =
-    inl (stopped_amidst indexes whole failures before seen after by.all more by.read by.unfailed by.kept key digest by.x by.chosen old new old_is after_is
+    inl (stopped_amidst indexes whole failures before seen after by.all more key by.read by.unfailed by.kept digest by.x by.chosen old new old_is after_is
     draft fault stops)
 
 -- ---- where entries are tied
 
 module _ {A I P : Type 0} (indexes : List (Reader I)) (whole : P → Option (List ℕ)) (failures : P → ℕ) (before seen after : List P)
-    (all : List (List (List ℕ))) (more : length after ≡ length seen)
-    (read : AreReadWith indexes (readers whole failures before seen) all)
+    (all : List (List (List ℕ))) (more : length after ≡ length seen) (key : SliceKey)
+    (read : AreReadWith (key.uuid ∷ []) indexes (readers whole failures before seen) all)
     (unfailed : AreUnfailedTogether indexes (readers whole failures before seen))
-    (kept : AreAllKept whole failures before seen) (key : SliceKey) (digest : Option Digest) (content : A → Operations)
+    (kept : AreAllKept whole failures before seen) (digest : Option Digest) (content : A → Operations)
     (none : digest ≡ None) (tied : AreTied (key_bytes key) all) where
   abbrev asked : Writer → Extraction
   asked = extract_at indexes (readers whole failures before after) key digest
@@ -234,21 +251,22 @@ module _ {A I P : Type 0} (indexes : List (Reader I)) (whole : P → Option (Lis
   tied_place o named each (Named _) given size is = absurd is
   tied_place o named each (Kept k) given size (content_is, is) =
       subst (λ (p : Operations). KeepsWanted asked key p k.number given size) (sym content_is)
-      (tied_so indexes whole failures before seen after all more read unfailed kept key digest none tied o named each k.number given size is)
+      (tied_so indexes whole failures before seen after all more key read unfailed kept digest none tied o named each k.number given size is)
 
   tied_choice : (o : Operations) → HoldNamed (key_bytes key ∷ []) (readers whole failures seen after) all o
       → EachUnfailed (readers whole failures seen after) → (choice : Choice (Place A)) → IsKeptChoice content o key choice
       → IsChosenFor asked (λ chosen. IsFoundAt content indexes whole failures before after key digest chosen.place chosen.digest chosen.size) choice
   tied_choice o named each (One chosen) is = tied_place o named each chosen.place chosen.digest chosen.size is
   tied_choice o named each (Undecided rows) is =
-      tied_none indexes whole failures before seen after all more read unfailed kept key digest none tied o named each rows.items is
+      tied_none indexes whole failures before seen after all more key read unfailed kept digest none tied o named each rows.items is
 
-  pub chosen_when_tied : (result : Result (Choice (Place A)) CommandFault)
-      → ChoosesTied content key all (readers whole failures seen after) result
+  pub chosen_when_tied : (sizes : List ℕ) → HaveLengths (readers whole failures before seen) sizes
+      → (result : Result (Choice (Place A)) CommandFault)
+      → ChoosesTied content key all sizes (readers whole failures seen after) result
       → Chooses asked (λ chosen. IsFoundAt content indexes whole failures before after key digest chosen.place chosen.digest chosen.size) result
-  chosen_when_tied (Ok choice) r = record {
+  chosen_when_tied sizes lengths (Ok choice) r = record {
     is = tied_choice r.is.0 r.is.1 r.unfailed choice r.is.2;
-    unfailed = wanting indexes whole failures before seen after all more read unfailed kept key digest r.unfailed;
+    unfailed = wanting indexes whole failures before seen after all more key read unfailed kept digest r.unfailed;
   }
-  chosen_when_tied (Err fault) r =
-      refused_later indexes whole failures before seen after all more read unfailed kept key digest tied fault r
+  chosen_when_tied sizes lengths (Err fault) r =
+      refused_later indexes whole failures before seen after all more key read unfailed kept digest sizes lengths tied fault r

@@ -31,7 +31,7 @@ use Rattle.command_extract.specs.declared.place.Place.TheVariants.{Named, Kept}
 pub record IsChosenFrom {I P : Type 0} (indexes : List (Reader I)) (archives : List (Reader P)) (key : SliceKey)
     (digest : Option Digest) (x : EntryAt) (archive : Reader P) : Type 0 where
   pub all : List (List (List ℕ))
-  pub read : AreReadWith indexes archives all
+  pub read : AreReadWith (key.uuid ∷ []) indexes archives all
   pub unfailed : EachUnfailed indexes
   pub chosen : IsChosen key digest all x
   pub later : List (Reader P)
@@ -59,7 +59,7 @@ pub record StopsEntry {I P : Type 0} (indexes : List (Reader I)) (archives : Lis
 pub record LacksEntry {I P : Type 0} (indexes : List (Reader I)) (archives : List (Reader P)) (key : SliceKey)
     (digest : Option Digest) (told : List ℕ) : Type 0 where
   pub all : List (List (List ℕ))
-  pub read : AreReadWith indexes archives all
+  pub read : AreReadWith (key.uuid ∷ []) indexes archives all
   pub answering : List EntryAt
   pub are : AreUnchosen key digest all answering
   pub rows : List FindRow
@@ -71,14 +71,15 @@ pub record LacksEntry {I P : Type 0} (indexes : List (Reader I)) (archives : Lis
 -- the slices that the indexes name under the key, joined, satisfy `IsTrue`, and entries are tied
 abbrev pub HoldTied : {I P : Type 0} → List (Reader I) → List (Reader P) → SliceKey → Held
 HoldTied indexes archives key IsTrue =
-    (o : Operations) × (held : HoldTogether (key_bytes key ∷ []) indexes archives o) × AreTied (key_bytes key) held.all
-    × IsTrue o
+    (o : Operations) × (held : HoldTogether (key.uuid ∷ []) (key_bytes key ∷ []) indexes archives o)
+    × AreTied (key_bytes key) held.all × IsTrue o
 
 -- an index or the length of its archive is refused; or, if entries are tied, an archive whose slices are read
 abbrev pub AreRefusedBefore : {I P : Type 0} → List (Reader I) → List (Reader P) → SliceKey → InputName → Why → Type 0
 AreRefusedBefore indexes archives key at why =
-    IsFirstRefusedByIndex indexes archives at why
-    ⊎ ((refused : AreRefusedLater (key_bytes key ∷ []) indexes archives at why) × AreTied (key_bytes key) refused.all)
+    IsFirstRefusedByIndex (key.uuid ∷ []) indexes archives at why
+    ⊎ ((refused : AreRefusedLater (key.uuid ∷ []) (key_bytes key ∷ []) indexes archives at why)
+    × AreTied (key_bytes key) refused.all)
 
 -- ---- the command
 
@@ -105,7 +106,7 @@ extract_at indexes archives key digest draft = record {
 pub record IsNamedBy {I P : Type 0} (indexes : List (Reader I)) (whole : P → Option (List ℕ)) (failures : P → ℕ)
     (before seen : List P) (key : SliceKey) (digest : Option Digest) (named : NamedSlice) : Type 0 where
   pub all : List (List (List ℕ))
-  pub read : AreReadWith indexes (readers whole failures before seen) all
+  pub read : AreReadWith (key.uuid ∷ []) indexes (readers whole failures before seen) all
   pub unfailed : AreUnfailedTogether indexes (readers whole failures before seen)
   pub kept : AreAllKept whole failures before seen
   pub x : EntryAt

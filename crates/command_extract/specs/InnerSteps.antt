@@ -47,13 +47,14 @@ abbrev pub IsKeptChoice : {A : Type 0} → (A → Operations) → Operations →
 IsKeptChoice content o key (One chosen) = ChoosesAt content o key chosen.place chosen.digest chosen.size
 IsKeptChoice content o key (Undecided rows) = ChoosesNone o key None rows.items
 
--- the result of reading the slices that these entries name under the key, and choosing among them
-abbrev pub ChoosesTied : {A P : Type 0} → (A → Operations) → SliceKey → List (List (List ℕ)) → List (Reader P)
-    → Result (Choice (Place A)) CommandFault → Type 0
-ChoosesTied content key all archives result =
+-- the result of reading the slices that these entries name under the key, in archives of these lengths, and choosing
+-- among them
+abbrev pub ChoosesTied : {A P : Type 0} → (A → Operations) → SliceKey → List (List (List ℕ)) → List ℕ
+    → List (Reader P) → Result (Choice (Place A)) CommandFault → Type 0
+ChoosesTied content key all sizes archives result =
     ReadsInputs result
     (λ choice. (o : Operations) × HoldNamed (key_bytes key ∷ []) archives all o × IsKeptChoice content o key choice)
-    (IsFirstRefusedAtPlaces (key_bytes key ∷ []) archives all) (EachUnfailed archives)
+    (IsFirstRefusedAtPlaces (key_bytes key ∷ []) archives all sizes) (EachUnfailed archives)
 
 -- the result of sending bytes: the draft accepted them, or it failed
 abbrev pub SendsBytes : List ℕ → Writer → Result (Unit {0}) CommandFault → Type 0

@@ -5,7 +5,7 @@ ghost use Rattle.command_extract.specs.InnerEntries.{IsEntryChoice};
 
 use archive_core::{Digest, FindRow, SliceKey};
 use heap_memory::{Heap, NoMemory};
-use index_format::Index;
+use index_format::IndexPart;
 use index_lookup::{NamedSlice, named_among, named_with};
 
 /// The choice of a wanted slice by the entries of indexes.
@@ -39,7 +39,7 @@ fn rows_of(heap: Heap, named: &[NamedSlice]) -> Result<Vec<FindRow, Heap>, NoMem
 }
 
 /// The one slice that answers under a key, or the rows of all that do.
-fn answering(heap: &Heap, key: &SliceKey, read: &[Index]) -> Result<EntryChoice, NoMemory>
+fn answering(heap: &Heap, key: &SliceKey, read: &[IndexPart]) -> Result<EntryChoice, NoMemory>
     ensures { IfOk result (IsEntryChoice key.now None read.now) }
 {
     let Some(named) = named_among(heap, key, read)? else {
@@ -56,7 +56,7 @@ pub(crate) fn choose_entry(
     heap: &Heap,
     key: &SliceKey,
     digest: &Option<Digest>,
-    read: &[Index],
+    read: &[IndexPart],
 ) -> Result<EntryChoice, NoMemory>
     ensures { IfOk result (IsEntryChoice key.now digest.now read.now) }
 {

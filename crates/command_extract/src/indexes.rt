@@ -16,25 +16,28 @@ use crate::place::Place;
 use crate::sending::send_from;
 use archive_core::{Archive, Digest, SliceKey};
 use byte_device::{Placed, Sink};
-use command_common::{CommandFault, bytes_of};
+use command_common::{CommandFault, bytes_of, uuid_bytes};
 use command_given_indexes::{Indexes, KeyPrefix, read_indexes, read_prefixes};
 use heap_memory::Heap;
-use index_format::Index;
+use index_format::IndexPart;
 use index_lookup::NamedSlice;
 
-/// Chooses among the slices that the indexes, which were read before, name under a key. The slices are read at their
-/// offsets, tested and hashed, and kept.
+/// Chooses among the slices that the indexes, which were read before with the lengths of their archives, name under a
+/// key. The slices are read at their offsets, tested and hashed, and kept.
 fn choose_tied<A: Archive + Drop, P: Placed>(
     heap: Heap,
     key: &SliceKey,
-    read: &[Index],
+    read: &[IndexPart],
+    sizes: &[u64],
     archives: &mut [P],
 ) -> Result<Choice<Place<A>>, CommandFault>
-    requires { length read.now ≡ length archives.old }
-    ensures { ChoosesTied A.content key.now read.now (readers P.whole P.failures archives.old archives.new) result }
+    requires many { length read.now ≡ length archives.old }
+    requires sizes { length sizes.now ≡ length archives.old }
+    ensures { ChoosesTied A.content key.now read.now sizes.now
+        (readers P.whole P.failures archives.old archives.new) result }
 {
     let _front = bytes_of(key);
-    let kept: A = read_prefixes(&heap, &[KeyPrefix::Key(*key)], read, archives)?;
+    let kept: A = read_prefixes(&heap, &[KeyPrefix::Key(*key)], read, sizes, archives)?;
     match choose_in(heap, &kept, key, &None)? {
         Choice::One(chosen) => Ok(Choice::One(Chosen {
             place: Place::Kept(Kept {
@@ -63,8 +66,8 @@ fn choose_named<A>(named: NamedSlice) -> Chosen<Place<A>>
     }
 }
 
-/// Chooses a slice by the entries of indexes, which are read. No slice is read, unless two that answer have one length
-/// and are in two archives.
+/// Chooses a slice by the entries of indexes, of which those under its UUID are read. No slice is read, unless two that
+/// answer have one length and are in two archives.
 fn choose_by<A: Archive + Drop, I: Placed, P: Placed>(
     heap: Heap,
     indexes: &mut [I],
@@ -78,11 +81,11 @@ fn choose_by<A: Archive + Drop, I: Placed, P: Placed>(
         (λ chosen. IsFoundAt A.content named P.whole P.failures archives.old archives.new key.now digest.now
         chosen.place chosen.digest chosen.size) result }
 {
-    let read = read_indexes(&heap, indexes, archives)?;
+    let (read, sizes) = read_indexes(&heap, &[uuid_bytes(key.uuid)], indexes, archives)?;
     match choose_entry(&heap, key, digest, &read)? {
         EntryChoice::One(named) => Ok(Choice::One(choose_named(named))),
         EntryChoice::Undecided(rows) => Ok(Choice::Undecided(rows)),
-        EntryChoice::Tied => choose_tied::<A, _>(heap, key, &read, archives),
+        EntryChoice::Tied => choose_tied::<A, _>(heap, key, &read, &sizes, archives),
     }
 }
 

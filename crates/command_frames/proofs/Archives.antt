@@ -9,13 +9,13 @@ use Rattle.archive_core.specs.Lookup.{AnswerRecord}
 use Rattle.archive_core.specs.declared.keys.SliceKey.{SliceKey}
 use Rattle.archive_core.specs.declared.lookup.Where.{Where}
 use Rattle.dwarf_source_frames.specs.Frames.{FrameRecord}
-use Rattle.index_format.specs.Places.{HasIndexedLength}
-use Rattle.index_format.specs.Text.{placed_of}
+use Rattle.std.proofs.lemmas.Option.{IfSome_then}
+use Rattle.index_format.specs.Text.{placed_in}
 use Rattle.command_common.specs.Inputs.{EachUnfailed, EachUntouched, Reader, Unfailed, readers}
 use Rattle.command_common.specs.declared.faults.InputName.{InputName}
 use Rattle.command_common.specs.declared.faults.Why.{Why}
 use Rattle.command_common.specs.declared.faults.Why.TheVariants.{Stale}
-use Rattle.command_given_indexes.specs.Prefixes.{AreNamedUnder, IsReadFor, IsStaleFor, IsStaleUnder}
+use Rattle.command_given_indexes.specs.Prefixes.{AreNamedUnder, IsReadFor, IsStaleFor, IsUnnamedUnder}
 use Rattle.command_given_indexes.specs.Indexes.{IsUnreadAt}
 use Rattle.command_given_indexes.specs.Together.{AreAllKept, AreNamedBy, HaveSameBytes, HoldNamed, IsFirstRefusedAtPlaces, IsRefusedAtPlaces}
 use Rattle.command_frames.specs.Asking.{IsAnsweredBySlices, is_stale_entry}
@@ -49,8 +49,7 @@ module _ {P : Type 0} where
       → HaveBytesOf xs ys → AreNamedBy prefixes xs all groups → AreNamedBy prefixes ys all groups
   named_same prefixes [] [] all groups same named = named
   named_same prefixes (a ∷ xs) (b ∷ ys) (es ∷ all) (ps ∷ groups) same named = (
-    subst (λ (w : Option (List ℕ)). IfSome w (λ text. HasIndexedLength (placed_of es) text
-        × AreNamedUnder prefixes (placed_of es) text ps)) (sym same.0) named.0,
+    subst (λ (w : Option (List ℕ)). IfSome w (λ text. AreNamedUnder prefixes (placed_in es) text ps)) (sym same.0) named.0,
     named_same prefixes xs ys all groups same.1 named.1,
   )
   named_same prefixes [] (b ∷ ys) all groups same named = absurd same
@@ -87,7 +86,7 @@ module _ {P : Type 0} where
         entry = is.entry;
         at_is = is.at_is;
         why_is = is.why_is;
-        stale = subst (λ (w : Option (List ℕ)). IfSome w (λ text. IsStaleUnder (key ∷ []) (placed_of is.entries) text (Some is.entry))) (sym other.2) is.stale;
+        stale = subst (λ (w : Option (List ℕ)). IfSome w (λ text. IsUnnamedUnder (key ∷ []) (placed_in is.entries) text is.entry)) (sym other.2) is.stale;
       }
 
   -- ---- which did not fail
@@ -107,19 +106,20 @@ module _ {P : Type 0} where
       (before.0, unfailed_besides n xs a before.1 at own (subst (λ (m : ℕ). EachUntouched (drop m (x ∷ xs))) next after))
 
   -- an entry that names no record: no device failed, and it is the first one
-  stale_first : (key : List ℕ) (xs : List (Reader P)) (all : List (List (List ℕ))) (at : InputName) (why : Why)
-      → IsFirstRefusedAtPlaces (key ∷ []) xs all at why → is_stale_entry why ≡ true → IsStaleAt xs all key at why × EachUnfailed xs
-  stale_first key xs all at why r entry = by r.refused
+  stale_first : (key : List ℕ) (xs : List (Reader P)) (all : List (List (List ℕ))) (sizes : List ℕ) (at : InputName) (why : Why)
+      → IsFirstRefusedAtPlaces (key ∷ []) xs all sizes at why → is_stale_entry why ≡ true → IsStaleAt xs all key at why × EachUnfailed xs
+  stale_first key xs all sizes at why r entry = by r.refused
     where
-      by : IsRefusedAtPlaces (key ∷ []) r.number r.archive r.entries at why → IsStaleAt xs all key at why × EachUnfailed xs
-      by (inl unread) = absurd (none (IsReadFor (key ∷ []) (placed_of r.entries)) why unread.1 entry)
+      by : IsRefusedAtPlaces (key ∷ []) r.number r.archive r.entries r.size at why → IsStaleAt xs all key at why × EachUnfailed xs
+      by (inl unread) = absurd (none (IsReadFor (key ∷ []) (placed_in r.entries)) why unread.1 entry)
         where
           none : (IsRead : ℕ → Type 0) (w : Why) → IsUnreadAt IsRead r.archive w → is_stale_entry w ≡ true → ⊥
           none IsRead (Stale e) u stale = absurd u
           none IsRead w u stale = absurd (cc stale)
       by (inr stale) = by_entry stale.2.0 stale.2.1 stale.2.2
         where
-          by_entry : (e : Option ℕ) → why ≡ Stale e → IsStaleFor (key ∷ []) r.archive (placed_of r.entries) e → IsStaleAt xs all key at why × EachUnfailed xs
+          by_entry : (e : Option ℕ) → why ≡ Stale e → IsStaleFor (key ∷ []) r.archive (placed_in r.entries) r.size e
+              → IsStaleAt xs all key at why × EachUnfailed xs
           by_entry None is h = absurd (cc (is, entry))
           by_entry (Some e) is h = (
             record {
@@ -133,7 +133,7 @@ module _ {P : Type 0} where
               entry = e;
               at_is = stale.0;
               why_is = is;
-              stale = h;
+              stale = IfSome_then (r.archive.left r.archive.old) h (λ text named. named.1);
             },
             unfailed_besides r.number xs r.archive r.archive_is.unfailed r.archive_is.is stale.1 r.archive_is.behind,
           )
@@ -187,12 +187,12 @@ module _ {P : Type 0} (whole : P → Option (List ℕ)) (failures : P → ℕ) w
   bytes_kept (x ∷ xs) [] kept = absurd kept
 
   -- a key whose slice is not there any more is refused alone, and the archives are kept
-  pub stale_key : (key : SliceKey) (all : List (List (List ℕ))) (old new : List P) (at : InputName) (why : Why)
+  pub stale_key : (key : SliceKey) (all : List (List (List ℕ))) (sizes : List ℕ) (old new : List P) (at : InputName) (why : Why)
       → length new ≡ length old → HaveSameBytes whole old new
-      → IsFirstRefusedAtPlaces (key_bytes key ∷ []) (between old new) all at why → is_stale_entry why ≡ true
+      → IsFirstRefusedAtPlaces (key_bytes key ∷ []) (between old new) all sizes at why → is_stale_entry why ≡ true
       → IsStaleAt (between old old) all (key_bytes key) at why × AreAllKept whole failures old new
-  stale_key key all old new at why long same refused entry =
-      let found = stale_first (key_bytes key) (between old new) all at why refused entry in (
+  stale_key key all sizes old new at why long same refused entry =
+      let found = stale_first (key_bytes key) (between old new) all sizes at why refused entry in (
         stale_same (between old new) (between old old) all (key_bytes key) at why (same_bytes old new old old long refl refl) found.0,
         all_kept_of old new long same found.1,
       )

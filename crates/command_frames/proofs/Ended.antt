@@ -1,5 +1,5 @@
 -- How commands end that ask key by key.
-use Rattle.std.proofs.Common.{◌≡◌, ℕ, ◌⊎◌, Bool, true, false, List, [], ◌∷◌, length, take, Option, refl, sym, ap, ◌∙◌, subst, inl, inr}
+use Rattle.std.proofs.Common.{◌≡◌, ℕ, ◌⊎◌, Bool, true, false, List, [], ◌∷◌, ◌++◌, length, take, Option, refl, sym, ap, ◌∙◌, subst, inl, inr}
 use Rattle.std.specs.Prelude.{slice_get, slice_set}
 use Rattle.std.specs.Cmp.Lexicographic.{slice_cmp}
 use Rattle.std.specs.List.{AllZip, Contains}
@@ -25,10 +25,11 @@ use Rattle.index_lookup.specs.AmongAsked.{BlamesAmong, HasText, HaveTexts, IsFir
 use Rattle.index_lookup.specs.declared.fault.AnswerFault.{AnswerFault}
 use Rattle.index_lookup.specs.declared.fault.AnswerFault.TheVariants as answer
 use Rattle.command_given_indexes.specs.Several.{AreRefusedLater, AreUnfailedTogether}
-use Rattle.command_given_indexes.specs.Together.{AreAllKept, AreReadWith, IsKept}
-use Rattle.command_given_indexes.proofs.Groups.{later_readers, read_earlier, unfailed_through}
+use Rattle.command_given_indexes.specs.Together.{AreAllKept, AreReadWith, HaveLengths, IsKept}
+use Rattle.command_given_indexes.proofs.Groups.{later_readers, lengths_earlier, read_earlier, unfailed_through}
+use Rattle.command_queries.specs.Frames.{frame_keys}
 use Rattle.command_queries.specs.Symbolicate.{asked_of}
-use Rattle.command_frames.specs.Asking.{AreAnsweredBelow, AreGiven, AreRefusedAsking, AreUnread, AreUntold, IsAnsweredAt, IsAnsweredByTables}
+use Rattle.command_frames.specs.Asking.{AreAnsweredBelow, AreAskedUuids, AreGiven, AreRefusedAsking, AreUnread, AreUntold, IsAnsweredAt, IsAnsweredByTables}
 use Rattle.command_frames.specs.Asking.{HavePlaces, IsChanged, IsLineless, IsTableRefused, IsUnreadTable, keys_of}
 use Rattle.command_frames.specs.Frames.{AreToldAt}
 use Rattle.command_frames.specs.InnerAsking.{IsKeyFault, IsOfKey, IsRefusedUnder, NoneFailed, RefusesAll, command_fault}
@@ -48,10 +49,11 @@ use Rattle.command_frames.proofs.States.{all_kept, fails_alone, none_failed_of, 
 
 -- after the indexes were read
 module _ {I P : Type 0} (left : I → Option (List ℕ)) (failures : I → ℕ) (whole : P → Option (List ℕ)) (failures_at : P → ℕ)
-    (old mid new : List I) (before seen after : List P) (all : List (List (List ℕ)))
+    (old mid new : List I) (before seen after : List P) (uuids : List (List ℕ)) (all : List (List (List ℕ))) (sizes : List ℕ)
     (more : length new ≡ length mid) (more_at : length after ≡ length seen)
-    (read : AreRead (AreReadWith (readers left failures old mid) (readers whole failures_at before seen) all)
+    (read : AreRead (AreReadWith uuids (readers left failures old mid) (readers whole failures_at before seen) all)
     (EachUnfailed (readers left failures old mid) × EachUnfailed (readers whole failures_at before seen)))
+    (lengths : HaveLengths (readers whole failures_at before seen) sizes)
     (kept : AreAllKept left failures old mid × AreAllKept whole failures_at before seen) (lines slices : Bool) where
   abbrev named : List (Reader I)
   named = readers left failures old new
@@ -68,10 +70,13 @@ module _ {I P : Type 0} (left : I → Option (List ℕ)) (failures : I → ℕ) 
   long_at : length seen ≡ length before
   long_at = AllZip-long (IsKept whole failures_at) before seen kept.1
 
-  read_all : AreReadWith named known all
+  read_all : AreReadWith uuids named known all
   read_all =
-      read_earlier whole failures_at named before seen after all long_at (more_at ∙ long_at)
-      (read_before left failures (readers whole failures_at before seen) all old mid new long (more ∙ long) read.is)
+      read_earlier whole failures_at uuids named before seen after all long_at (more_at ∙ long_at)
+      (read_before left failures uuids (readers whole failures_at before seen) all old mid new long (more ∙ long) read.is)
+
+  lengths_all : HaveLengths known sizes
+  lengths_all = lengths_earlier whole failures_at before seen after sizes long_at (more_at ∙ long_at) lengths
 
   counts_kept : each_known failures mid ≡ each_known failures old
   counts_kept = (all_kept left failures old mid kept.0).1
@@ -217,12 +222,13 @@ module _ {I P : Type 0} (left : I → Option (List ℕ)) (failures : I → ℕ) 
       } in
       inr by
 
-  pub frames_told : (keys : List SliceKey) (frames : List Frame) (asked : List AskedKey) (told : List KeyAnswers) → AreKeysOf frames asked
+  pub frames_told : (keys : List SliceKey) (frames : List Frame) (asked : List AskedKey) (told : List KeyAnswers)
+      → AreAskedUuids (keys ++ frame_keys frames) uuids → AreKeysOf frames asked
       → AreRead (AreTold IsSaidLater IsRefusedLater slices asked told × (each_known left new ≡ each_known left mid) × AreAllKept whole failures_at seen after)
       (NoneFailed failures mid new × EachUnfailed later)
       → (status : Status) (text : List ℕ) → PrintsFrames told slices all keys frames status text
       → AreRead (AreToldAt lines slices named known keys frames status text) (AreUnfailedTogether named known)
-  frames_told keys frames asked told of r status text prints =
+  frames_told keys frames asked told under of r status text prints =
       let unfailed = unfailed_all r.unfailed in
       let are = r.is.0 in
       let true_now = All-weaker _ _ (under_as IsSaidLater (IsAnsweredAt (AreGiven named) known all lines) IsRefusedLater IsRefusedLater
@@ -233,6 +239,8 @@ module _ {I P : Type 0} (left : I → Option (List ℕ)) (failures : I → ℕ) 
       status prints.answers prints.refused prints.shown prints.refused_is in
       record {
         is = record {
+          uuids = uuids;
+          asked = under;
           all = all;
           read = read_all;
           told = followed slices (IsAnsweredAt (AreGiven named) known all lines) (IsKeyRefused lines frames named known all) all keys frames
@@ -244,9 +252,10 @@ module _ {I P : Type 0} (left : I → Option (List ℕ)) (failures : I → ℕ) 
   -- ---- what is refused
 
   abbrev RefusesUnder : InputName → Why → List (List ℕ) → List Where → Type 0
-  RefusesUnder at why keys places = IsRefusedUnder left failures whole failures_at lines slices all mid new seen after keys places at why
+  RefusesUnder at why keys places = IsRefusedUnder left failures whole failures_at lines slices all sizes mid new seen after keys places at why
 
-  module _ (frames : List Frame) (asked : List AskedKey) (of : AreKeysOf frames asked) (at : InputName) (why : Why)
+  module _ (keys : List SliceKey) (frames : List Frame) (asked : List AskedKey) (under : AreAskedUuids (keys ++ frame_keys frames) uuids)
+      (of : AreKeysOf frames asked) (at : InputName) (why : Why)
       (r : IsRefusedAfter IsSaidLater IsRefusedLater slices asked (RefusesUnder at why)) where
     asked_for : Contains asked r.one
     asked_for = (r.number, slice_get_within asked r.number r.one r.one_is, get_or_from_slice_get asked r.number r.one r.one r.one_is)
@@ -277,7 +286,7 @@ module _ {I P : Type 0} (left : I → Option (List ℕ)) (failures : I → ℕ) 
     refused_so : RefusesUnder at why (key_bytes r.one.key ∷ []) r.one.places.items → AreRefusedAsking lines slices frames named known at why
     refused_so (inl (each, u)) =
         let is = only_key (key_bytes r.one.key) u.key u.key_is in
-        let told : AreUntold lines slices frames named known at why = record {
+        let told : AreUntold lines slices uuids frames named known at why = record {
           all = all;
           read = read_all;
           unfailed = unfailed_known each;
@@ -292,20 +301,22 @@ module _ {I P : Type 0} (left : I → Option (List ℕ)) (failures : I → ℕ) 
           of_frames = placed u.key is;
           before = below u.key is;
         } in
-        inr (inr told)
+        (keys, uuids, under, inr (inr told))
     refused_so (inr (none, u)) =
         let is = only_key (key_bytes r.one.key) u.key u.key_is in
         let long_mid : length u.mid ≡ length seen = AllZip-long (IsKept whole failures_at) seen u.mid u.kept in
-        let later_refused : AreRefusedLater (u.key ∷ []) named known at why = record {
+        let later_refused : AreRefusedLater uuids (u.key ∷ []) named known at why = record {
           all = all;
           read = read_all;
+          sizes = sizes;
+          lengths = lengths_all;
           unfailed = none_failed_named none;
           later = readers whole failures_at u.mid after;
           are_later = later_readers whole failures_at before u.mid after (more_at ∙ sym long_mid)
               (kept_then whole failures_at before seen u.mid kept.1 u.kept);
           refused = u.refused;
         } in
-        let told : AreUnread lines slices frames named known at why = record {
+        let told : AreUnread lines slices uuids frames named known at why = record {
           key = u.key;
           key_is = there u.key is;
           refused = later_refused;
@@ -313,12 +324,13 @@ module _ {I P : Type 0} (left : I → Option (List ℕ)) (failures : I → ℕ) 
           before = below u.key is;
           of_all = u.of_all;
         } in
-        inr (inl told)
+        (keys, uuids, under, inr (inl told))
 
-  pub frames_refused : (frames : List Frame) (asked : List AskedKey) → AreKeysOf frames asked → (fault : CommandFault)
+  pub frames_refused : (keys : List SliceKey) (frames : List Frame) (asked : List AskedKey) → AreAskedUuids (keys ++ frame_keys frames) uuids
+      → AreKeysOf frames asked → (fault : CommandFault)
       → IsRefusal (λ at why. IsRefusedAfter IsSaidLater IsRefusedLater slices asked (RefusesUnder at why))
       (NoneFailed failures mid new × EachUnfailed later) fault
       → IsRefusal (AreRefusedAsking lines slices frames named known) (AreUnfailedTogether named known) fault
-  frames_refused frames asked of (Input at why) r = refused_so frames asked of at why r r.refused
-  frames_refused frames asked of OutOfMemory r = unfailed_all r
-  frames_refused frames asked of fault r = absurd r
+  frames_refused keys frames asked under of (Input at why) r = refused_so keys frames asked under of at why r r.refused
+  frames_refused keys frames asked under of OutOfMemory r = unfailed_all r
+  frames_refused keys frames asked under of fault r = absurd r

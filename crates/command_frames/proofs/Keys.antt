@@ -62,22 +62,22 @@ module _ {D P : Type 0} (whole : D → Option (List ℕ)) (failures : D → ℕ)
   true_first one is = under_as _ _ _ _ said_first refused_first slices one is
 
   -- and what is refused under some of these keys is refused under all
-  pub refused_among : (new : List D) (new_at : List P) (keys others : List (List ℕ)) (places : List Where) (fault : CommandFault)
+  pub refused_among : (sizes : List ℕ) (new : List D) (new_at : List P) (keys others : List (List ℕ)) (places : List Where) (fault : CommandFault)
       → length new_at ≡ length mid_at
       → ((key : List ℕ) → Contains keys key → Contains others key)
       → IsRefusal (λ at why. (EachUnfailed (readers whole_at failures_at mid_at new_at)
       × IsUntoldBy whole failures lines slices keys places all mid new at why)
-      ⊎ (NoneFailed failures mid new × IsUnreadBy whole_at failures_at slices keys all mid_at new_at at why))
+      ⊎ (NoneFailed failures mid new × IsUnreadBy whole_at failures_at slices keys all sizes mid_at new_at at why))
       (NoneFailed failures mid new × EachUnfailed (readers whole_at failures_at mid_at new_at)) fault
       → IsRefusal (λ at why. (EachUnfailed (readers whole_at failures_at first_at new_at)
       × IsUntoldBy whole failures lines slices others places all first new at why)
-      ⊎ (NoneFailed failures first new × IsUnreadBy whole_at failures_at slices others all first_at new_at at why))
+      ⊎ (NoneFailed failures first new × IsUnreadBy whole_at failures_at slices others all sizes first_at new_at at why))
       (NoneFailed failures first new × EachUnfailed (readers whole_at failures_at first_at new_at)) fault
-  refused_among new new_at keys others places (Input at why) more among (inl (each, r)) = inl (
+  refused_among sizes new new_at keys others places (Input at why) more among (inl (each, r)) = inl (
     unfailed_through whole_at failures_at first_at mid_at new_at long_at (more ∙ long_at) (kept_unfailed whole_at failures_at first_at mid_at kept) each,
     untold_first whole failures lines all first mid texts_kept slices counts_kept new keys others places at why among r,
   )
-  refused_among new new_at keys others places (Input at why) more among (inr (none, r)) = inr (
+  refused_among sizes new new_at keys others places (Input at why) more among (inr (none, r)) = inr (
     none ∙ counts_kept,
     record {
       key = r.key;
@@ -89,16 +89,16 @@ module _ {D P : Type 0} (whole : D → Option (List ℕ)) (failures : D → ℕ)
       of_all = r.of_all;
     },
   )
-  refused_among new new_at keys others places OutOfMemory more among (none, each) = (
+  refused_among sizes new new_at keys others places OutOfMemory more among (none, each) = (
     none ∙ counts_kept,
     unfailed_through whole_at failures_at first_at mid_at new_at long_at (more ∙ long_at) (kept_unfailed whole_at failures_at first_at mid_at kept) each,
   )
-  refused_among new new_at keys others places fault more among r = absurd r
+  refused_among sizes new new_at keys others places fault more among r = absurd r
 
 -- ---- slices after tables, of which two are tied
 
 module _ {D P : Type 0} (whole : D → Option (List ℕ)) (failures : D → ℕ) (whole_at : P → Option (List ℕ)) (failures_at : P → ℕ)
-    (lines slices : Bool) (all : List (List (List ℕ))) (old new : List D) (old_at new_at : List P) (key : SliceKey) (places : List Where) where
+    (lines slices : Bool) (all : List (List (List ℕ))) (sizes : List ℕ) (old new : List D) (old_at new_at : List P) (key : SliceKey) (places : List Where) where
   abbrev known : List (Reader P)
   known = readers whole_at failures_at old_at old_at
 
@@ -118,9 +118,9 @@ module _ {D P : Type 0} (whole : D → Option (List ℕ)) (failures : D → ℕ)
       (λ place answer frames is. inr is) (λ at why is. inr is) slices places told is
 
   pub slices_asked : (result : Result KeyReply CommandFault) → each_known whole new ≡ each_known whole old → NoneFailed failures old new
-      → AsksSlices whole_at failures_at slices (key_bytes key ∷ []) all old_at new_at result
+      → AsksSlices whole_at failures_at slices (key_bytes key ∷ []) all sizes old_at new_at result
       (IsKeyReply (IsAnsweredBySlices known all lines key) (IsKeyStale known all key) slices places)
-      → AsksKeys whole failures whole_at failures_at lines slices (key_bytes key ∷ []) places all old new old_at new_at result IsTold
+      → AsksKeys whole failures whole_at failures_at lines slices (key_bytes key ∷ []) places all sizes old new old_at new_at result IsTold
   slices_asked (Ok told) texts none r = record { is = (by_slices told r.is.0, texts, r.is.1); unfailed = (none, r.unfailed) }
   slices_asked (Err (Input at why)) texts none r = inr (none, r)
   slices_asked (Err OutOfMemory) texts none r = (none, r)

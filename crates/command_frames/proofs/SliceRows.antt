@@ -25,7 +25,8 @@ use Rattle.index_format.specs.Entry.{dsym_byte, tag_byte}
 use Rattle.index_lookup.specs.Among.{all_of, covers, has_live_companion, lives_under, subject_of}
 use Rattle.index_lookup.specs.Told.{admits_under, is_companion}
 use Rattle.command_queries.specs.Slices.{AreUuidsOf}
-use Rattle.command_given_indexes.specs.Rows.{AreRowsAmong, IsEntryRow, is_under_one}
+use Rattle.index_format.specs.Tree.{is_under_one}
+use Rattle.command_given_indexes.specs.Rows.{AreRowsAmong, IsEntryRow}
 use Rattle.command_given_indexes.proofs.RowsAmong.{rows_both, rows_either}
 use Rattle.command_frames.specs.Slices.{IsAnsweringEntryRow}
 

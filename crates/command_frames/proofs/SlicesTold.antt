@@ -1,8 +1,8 @@
 -- What is told of the slices under UUIDs: which records are read, and that what was kept tells what the join does.
-use Rattle.std.proofs.Common.{◌≡◌, ℕ, ◌+◌, ◌<◌, Bool, true, false, List, [], ◌∷◌, ◌++◌}
+use Rattle.std.proofs.Common.{◌≡◌, ℕ, ◌+◌, ◌<◌, Bool, true, List, [], ◌∷◌, ◌++◌}
 use Rattle.std.proofs.Common.{length, map, take, drop, get_or, refl, sym, ap, ◌∙◌, subst, arith, length-append}
 use Rattle.std.specs.Cmp.Lexicographic.{slice_cmp, nat_list_cmp_total}
-use Rattle.std.specs.List.{All, AllByRecursion, AllZip, Contains, dedup, list_any}
+use Rattle.std.specs.List.{All, AllByRecursion, AllZip, Contains, dedup}
 use Rattle.std.specs.List.Sorted.{IsPermutation, IsSorted, IsSortedByKey, IsStrictlySortedBy}
 use Rattle.std.specs.Ordering.{eq_by_cmp, is_eq, nat_cmp}
 use Rattle.std.specs.Str.{bytes_eq}
@@ -89,11 +89,15 @@ module _ (keys : List SliceKey) (uuids sorted kept : List (List ℕ))
         subst (Contains kept) (sym (bytes_same uuid any.1 (eq_true _ any.4))) other,
   )
 
+pub uuids_ascending : (sorted kept : List (List ℕ)) → IsSorted (slice_cmp nat_cmp) sorted → kept
+    ≡ dedup (eq_by_cmp (slice_cmp nat_cmp)) sorted → IsStrictlySortedBy (slice_cmp nat_cmp) kept
+uuids_ascending sorted kept up once =
+    subst (IsStrictlySortedBy (slice_cmp nat_cmp)) (sym once) (IsStrictlySortedBy-dedup nat_list_cmp_total (λ x y. refl) sorted up)
+
 pub uuids_sorted : (sorted kept : List (List ℕ)) → IsSorted (slice_cmp nat_cmp) sorted → kept
     ≡ dedup (eq_by_cmp (slice_cmp nat_cmp)) sorted → IsSortedByKey (λ (uuid : List ℕ). uuid) (slice_cmp nat_cmp) kept
 uuids_sorted sorted kept up once =
-    neighbours nat_list_cmp_total (λ (uuid : List ℕ). uuid) kept
-    (subst (IsStrictlySortedBy (slice_cmp nat_cmp)) (sym once) (IsStrictlySortedBy-dedup nat_list_cmp_total (λ x y. refl) sorted up))
+    neighbours nat_list_cmp_total (λ (uuid : List ℕ). uuid) kept (uuids_ascending sorted kept up once)
 
 -- one search more
 pub search_more : (o : Operations) (uuids : List (List ℕ)) (i : ℕ) (uuid : List ℕ) (pool rows grown : List FindRow)

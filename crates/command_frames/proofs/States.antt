@@ -41,17 +41,17 @@ module _ {S : Type 0} (left : S → Option (List ℕ)) (failures : S → ℕ) wh
   all_kept old new k = absurd k
 
   -- what was read with the first states was so whatever the last are
-  pub read_before : {P : Type 0} (archives : List (Reader P)) (all : List (List (List ℕ))) (old mid new : List S)
-      → length mid ≡ length old → length new ≡ length old → AreReadWith (between old mid) archives all
-      → AreReadWith (between old new) archives all
-  read_before archives all [] mid new long more read = read
-  read_before archives all (x ∷ xs) [] new long more read = absurd (omega (arith, long))
-  read_before archives all (x ∷ xs) (y ∷ ys) [] long more read = absurd (omega (arith, more))
-  read_before (archive ∷ archives) (entries ∷ all) (x ∷ xs) (y ∷ ys) (z ∷ zs) long more read =
+  pub read_before : {P : Type 0} (uuids : List (List ℕ)) (archives : List (Reader P)) (all : List (List (List ℕ))) (old mid new : List S)
+      → length mid ≡ length old → length new ≡ length old → AreReadWith uuids (between old mid) archives all
+      → AreReadWith uuids (between old new) archives all
+  read_before uuids archives all [] mid new long more read = read
+  read_before uuids archives all (x ∷ xs) [] new long more read = absurd (omega (arith, long))
+  read_before uuids archives all (x ∷ xs) (y ∷ ys) [] long more read = absurd (omega (arith, more))
+  read_before uuids (archive ∷ archives) (entries ∷ all) (x ∷ xs) (y ∷ ys) (z ∷ zs) long more read =
       let rest : length ys ≡ length xs = omega (arith, long) in
       let rest_more : length zs ≡ length xs = omega (arith, more) in
-      (record { index_is = read.0.index_is; archive_is = read.0.archive_is }, read_before archives all xs ys zs rest rest_more read.1)
-  read_before archives all old mid new long more read = absurd read
+      (record { size = read.0.size; index_is = read.0.index_is; archive_is = read.0.archive_is }, read_before uuids archives all xs ys zs rest rest_more read.1)
+  read_before uuids archives all old mid new long more read = absurd read
 
   -- ---- which failed
 

@@ -25,7 +25,7 @@ use Rattle.command_frames.proofs.Archives.{all_kept_of, kept_unfailed, same_byte
 use Rattle.command_frames.proofs.Shown.{one_key, places_as}
 
 module _ {P : Type 0} (whole : P → Option (List ℕ)) (failures : P → ℕ) (key : SliceKey) (all : List (List (List ℕ)))
-    (old new : List P) (lines slices : Bool) (places : List Where) (tied : AreTied (key_bytes key) all)
+    (sizes : List ℕ) (old new : List P) (lines slices : Bool) (places : List Where) (tied : AreTied (key_bytes key) all)
     (long : length new ≡ length old) (same : HaveSameBytes whole old new) where
   abbrev IsTold : KeyReply → Type 0
   IsTold told = IsKeyReply (IsAnsweredBySlices (readers whole failures old old) all lines key)
@@ -46,15 +46,15 @@ module _ {P : Type 0} (whole : P → Option (List ℕ)) (failures : P → ℕ) (
 
   -- one of them refuses all keys, or the key alone if slices are wanted
   pub unread_told : (fault : CommandFault)
-      → IsRefusal (IsFirstRefusedAtPlaces (key_bytes key ∷ []) (readers whole failures old new) all) (EachUnfailed (readers whole failures old new)) fault
-      → AsksSlices whole failures slices (key_bytes key ∷ []) all old new (reply_to_unread slices fault) IsTold
+      → IsRefusal (IsFirstRefusedAtPlaces (key_bytes key ∷ []) (readers whole failures old new) all sizes) (EachUnfailed (readers whole failures old new)) fault
+      → AsksSlices whole failures slices (key_bytes key ∷ []) all sizes old new (reply_to_unread slices fault) IsTold
   unread_told (Input at why) r = by (slices && is_stale_entry why) refl
     where
       by : (alone : Bool) → (slices && is_stale_entry why) ≡ alone
-          → AsksSlices whole failures slices (key_bytes key ∷ []) all old new (if alone then Ok (Refused at why) else Err (Input at why)) IsTold
+          → AsksSlices whole failures slices (key_bytes key ∷ []) all sizes old new (if alone then Ok (Refused at why) else Err (Input at why)) IsTold
       by true is =
           let parts = and_parts slices (is_stale_entry why) is in
-          let found = stale_key whole failures key all old new at why long same r parts.1 in
+          let found = stale_key whole failures key all sizes old new at why long same r parts.1 in
           record { is = ((parts.0, (tied, found.0)), found.1); unfailed = kept_unfailed whole failures old new found.1 }
       by false is = record {
         key = key_bytes key;

@@ -1,8 +1,9 @@
 -- The answers of indexes for addresses: under each key by the tables of the slices that answer, or by these slices.
-use Rattle.std.specs.Prelude.{◌≡◌, ◌+◌, ◌⊎◌, ◌&&◌, ℕ, List, [], ◌∷◌, Bool, true, false, Some, Contains, take, drop}
-use Rattle.std.specs.Prelude.{map, slice_get}
+use Rattle.std.specs.Prelude.{◌≡◌, ◌+◌, ◌⊎◌, ◌&&◌, ◌++◌, ℕ, List, [], ◌∷◌, All, Bool, true, false, Some, Contains}
+use Rattle.std.specs.Prelude.{drop, length, map, slice_get, take}
 use Rattle.std.specs.Cmp.Lexicographic.{slice_cmp}
 use Rattle.std.specs.List.{AllZip}
+use Rattle.std.specs.List.Sorted.{IsStrictlySortedBy}
 use Rattle.std.specs.Option.{is_some}
 use Rattle.std.specs.Ordering.{nat_cmp}
 use Rattle.std.specs.declared.cmp.Ordering.TheVariants.{Less}
@@ -13,6 +14,8 @@ use Rattle.archive_core.specs.Lookup.{AnswerRecord}
 use Rattle.archive_core.specs.declared.keys.SliceKey.{SliceKey}
 use Rattle.archive_core.specs.declared.lookup.Where.{Where}
 use Rattle.dwarf_source_frames.specs.Frames.{FrameRecord}
+use Rattle.command_queries.specs.Frames.{frame_keys}
+use Rattle.command_queries.specs.Slices.{AreUuidsOf}
 use Rattle.command_queries.specs.SourceFrames.{IsAnswerWithFrames}
 use Rattle.command_queries.specs.Symbolicate.{asked_of}
 use Rattle.text_input_files.specs.declared.frame.Frame.{Frame}
@@ -153,12 +156,18 @@ pub record IsUntoldUnder {I : Type 0} (lines slices : Bool) (keys : List (List �
   pub are : AreAnsweringAmong key all answering
   pub untold : IsTableRefused lines slices indexes places answering at why
 
+-- these are the UUIDs of these keys, each once, in the order of their bytes
+pub record AreAskedUuids (keys : List SliceKey) (uuids : List (List ℕ)) : Type 0 where
+  pub are : AreUuidsOf keys uuids
+  pub ascending : IsStrictlySortedBy (slice_cmp nat_cmp) uuids
+  pub long : All (λ uuid. length uuid ≡ 16) uuids
+
 -- The indexes were read, and then under the key of one of these frames a table is refused, at the addresses of its
 -- frames. Unless slices are wanted, the frames of lower keys have answers.
-pub record AreUntold {I P : Type 0} (lines slices : Bool) (frames : List Frame) (indexes : List (Reader I))
-    (archives : List (Reader P)) (at : InputName) (why : Why) : Type 0 where
+pub record AreUntold {I P : Type 0} (lines slices : Bool) (uuids : List (List ℕ)) (frames : List Frame)
+    (indexes : List (Reader I)) (archives : List (Reader P)) (at : InputName) (why : Why) : Type 0 where
   pub all : List (List (List ℕ))
-  pub read : AreReadWith indexes archives all
+  pub read : AreReadWith uuids indexes archives all
   pub unfailed : EachUnfailed archives
   pub untold : IsUntoldUnder lines slices (keys_of frames) indexes all at why
   pub of_frames : HavePlaces frames untold.key untold.places
@@ -184,20 +193,23 @@ is_stale_entry NoIndex = false
 -- Two slices are tied under the key of one of these frames, and one of the archives, which are read for them, is
 -- refused. Unless slices are wanted, the frames of lower keys have answers. If they are wanted, a stale entry is not a
 -- reason: it refuses its key, and the other keys are answered.
-pub record AreUnread {I P : Type 0} (lines slices : Bool) (frames : List Frame) (indexes : List (Reader I))
-    (archives : List (Reader P)) (at : InputName) (why : Why) : Type 0 where
+pub record AreUnread {I P : Type 0} (lines slices : Bool) (uuids : List (List ℕ)) (frames : List Frame)
+    (indexes : List (Reader I)) (archives : List (Reader P)) (at : InputName) (why : Why) : Type 0 where
   pub key : List ℕ
   pub key_is : Contains (keys_of frames) key
-  pub refused : AreRefusedLater (key ∷ []) indexes archives at why
+  pub refused : AreRefusedLater uuids (key ∷ []) indexes archives at why
   pub tied : AreTied key refused.all
   pub before : slices ≡ false → AreAnsweredBelow (AreGiven indexes) archives refused.all lines frames key
   pub of_all : (slices && is_stale_entry why) ≡ false
 
--- The refusal of commands that answer these frames: the first index that is refused, or length of its archive; after
--- that an archive whose slices are read because two are tied, or a table, and unless slices are wanted the first one in
--- the order of the keys' bytes.
+-- The refusal of commands that answer these frames, and tell of the slices under some keys; the entries under the UUIDs
+-- of these are read. It is of the first index that is refused, or length of its archive; after that of an archive whose
+-- slices are read because two are tied, or of a table, and unless slices are wanted the first one in the order of the
+-- keys' bytes.
 abbrev pub AreRefusedAsking : {I P : Type 0} → Bool → Bool → List Frame → List (Reader I) → List (Reader P)
     → InputName → Why → Type 0
 AreRefusedAsking lines slices frames indexes archives at why =
-    IsFirstRefusedByIndex indexes archives at why
-    ⊎ (AreUnread lines slices frames indexes archives at why ⊎ AreUntold lines slices frames indexes archives at why)
+    (keys : List SliceKey) × (uuids : List (List ℕ)) × AreAskedUuids (keys ++ frame_keys frames) uuids
+    × (IsFirstRefusedByIndex uuids indexes archives at why
+    ⊎ AreUnread lines slices uuids frames indexes archives at why
+    ⊎ AreUntold lines slices uuids frames indexes archives at why)

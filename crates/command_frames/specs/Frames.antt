@@ -8,7 +8,8 @@ use Rattle.archive_core.specs.Lookup.{AnswerRecord}
 use Rattle.archive_core.specs.declared.keys.SliceKey.{SliceKey}
 use Rattle.archive_core.specs.declared.lookup.Where.{Where}
 use Rattle.dwarf_source_frames.specs.Frames.{FrameRecord}
-use Rattle.command_queries.specs.Frames.{AskedOfFrames, IsFrameSaid, TellFrames, prints_addresses, prints_frames}
+use Rattle.command_queries.specs.Frames.{AskedOfFrames, IsFrameSaid, TellFrames, frame_keys, prints_addresses}
+use Rattle.command_queries.specs.Frames.{prints_frames}
 use Rattle.command_queries.specs.Symbolicate.{Answered}
 use Rattle.text_input_files.specs.declared.frame.Frame.{Frame}
 use Rattle.text_reports.specs.Slices.{TellsSlices, slice_key_cmp}
@@ -18,7 +19,7 @@ use Rattle.command_common.specs.declared.faults.Status.{Status}
 use Rattle.command_common.specs.declared.faults.Status.TheVariants.{SomeRefused}
 use Rattle.command_given_indexes.specs.Several.{AreUnfailedTogether}
 use Rattle.command_given_indexes.specs.Together.{AreReadWith}
-use Rattle.command_frames.specs.Asking.{AreGiven, AreRefusedAsking, IsAnsweredAt, keys_of}
+use Rattle.command_frames.specs.Asking.{AreAskedUuids, AreGiven, AreRefusedAsking, IsAnsweredAt, keys_of}
 use Rattle.command_frames.specs.Refusals.{AreRefusing, IsKeyRefused, KeyRefusal, Reply, refusal_lines}
 use Rattle.command_frames.specs.Refusals.{replies_status, replies_text}
 use Rattle.command_frames.specs.Slices.{IsAnsweringEntryRow}
@@ -69,13 +70,15 @@ TellFramesWith false IsSaid IsRefused all keys frames status text = TellFrames I
 TellFramesWith true IsSaid IsRefused all keys frames status text =
     TellFramesAndSlices IsSaid IsRefused all keys frames status text
 
--- The indexes were read. The frames have these answers, followed, if slices are wanted, by the slices that answer under
--- these keys. Under each key the tables answer, or the slices if two are tied. A key is refused alone only if slices
--- are wanted.
+-- The entries under the UUIDs of these keys and of the frames were read of the indexes. The frames have these answers,
+-- followed, if slices are wanted, by the slices that answer under these keys. Under each key the tables answer, or the
+-- slices if two are tied. A key is refused alone only if slices are wanted.
 pub record AreToldAt {I P : Type 0} (lines slices : Bool) (indexes : List (Reader I)) (archives : List (Reader P))
     (keys : List SliceKey) (frames : List Frame) (status : Status) (text : List ℕ) : Type 0 where
+  pub uuids : List (List ℕ)
+  pub asked : AreAskedUuids (keys ++ frame_keys frames) uuids
   pub all : List (List (List ℕ))
-  pub read : AreReadWith indexes archives all
+  pub read : AreReadWith uuids indexes archives all
   pub told : TellFramesWith slices (IsAnsweredAt (AreGiven indexes) archives all lines)
       (IsKeyRefused lines frames indexes archives all) all keys frames status text
 

@@ -82,31 +82,32 @@ AsksTables whole failures lines slices keys places all old new result IsTrue =
 
 -- Two slices are tied under one of these keys, and one of the archives, which were kept up to then, is refused.
 pub record IsUnreadBy {P : Type 0} (whole : P → Option (List ℕ)) (failures : P → ℕ) (slices : Bool)
-    (keys : List (List ℕ)) (all : List (List (List ℕ))) (old new : List P) (at : InputName) (why : Why) : Type 0 where
+    (keys : List (List ℕ)) (all : List (List (List ℕ))) (sizes : List ℕ) (old new : List P) (at : InputName) (why : Why)
+    : Type 0 where
   pub key : List ℕ
   pub key_is : Contains keys key
   pub tied : AreTied key all
   pub mid : List P
   pub kept : AreAllKept whole failures old mid
-  pub refused : IsFirstRefusedAtPlaces (key ∷ []) (readers whole failures mid new) all at why
+  pub refused : IsFirstRefusedAtPlaces (key ∷ []) (readers whole failures mid new) all sizes at why
   pub of_all : (slices && is_stale_entry why) ≡ false
 
 -- The result of asking the slices under these keys: a value that satisfies `IsTrue`, and each archive is kept; or an
 -- archive is refused.
 abbrev pub AsksSlices : {P T : Type 0} → (P → Option (List ℕ)) → (P → ℕ) → Bool → List (List ℕ)
-    → List (List (List ℕ)) → List P → List P → Result T CommandFault → (T → Type 0) → Type 0
-AsksSlices whole failures slices keys all old new result IsTrue =
+    → List (List (List ℕ)) → List ℕ → List P → List P → Result T CommandFault → (T → Type 0) → Type 0
+AsksSlices whole failures slices keys all sizes old new result IsTrue =
     ReadsInputs result (λ value. IsTrue value × AreAllKept whole failures old new)
-    (IsUnreadBy whole failures slices keys all old new) (EachUnfailed (readers whole failures old new))
+    (IsUnreadBy whole failures slices keys all sizes old new) (EachUnfailed (readers whole failures old new))
 
 -- under one of these keys a table is refused at these addresses, or an archive is refused
 abbrev pub IsRefusedUnder : {D P : Type 0} → (D → Option (List ℕ)) → (D → ℕ) → (P → Option (List ℕ)) → (P → ℕ) → Bool
-    → Bool → List (List (List ℕ)) → List D → List D → List P → List P → List (List ℕ) → List Where → InputName → Why
-    → Type 0
-IsRefusedUnder whole failures whole_at failures_at lines slices all old new old_at new_at keys places at why =
+    → Bool → List (List (List ℕ)) → List ℕ → List D → List D → List P → List P → List (List ℕ) → List Where
+    → InputName → Why → Type 0
+IsRefusedUnder whole failures whole_at failures_at lines slices all sizes old new old_at new_at keys places at why =
     (EachUnfailed (readers whole_at failures_at old_at new_at)
     × IsUntoldBy whole failures lines slices keys places all old new at why)
-    ⊎ (NoneFailed failures old new × IsUnreadBy whole_at failures_at slices keys all old_at new_at at why)
+    ⊎ (NoneFailed failures old new × IsUnreadBy whole_at failures_at slices keys all sizes old_at new_at at why)
 
 -- The result of asking under these keys: a value that satisfies `IsTrue`, each index keeps its bytes, and each archive
 -- is kept; or the given refusal.
@@ -120,8 +121,8 @@ AsksBy whole failures whole_at failures_at old new old_at new_at result IsTrue R
 
 -- the same, where a table is refused at these addresses, or an archive is refused, under one of these keys
 abbrev pub AsksKeys : {D P T : Type 0} → (D → Option (List ℕ)) → (D → ℕ) → (P → Option (List ℕ)) → (P → ℕ) → Bool
-    → Bool → List (List ℕ) → List Where → List (List (List ℕ)) → List D → List D → List P → List P
+    → Bool → List (List ℕ) → List Where → List (List (List ℕ)) → List ℕ → List D → List D → List P → List P
     → Result T CommandFault → (T → Type 0) → Type 0
-AsksKeys whole failures whole_at failures_at lines slices keys places all old new old_at new_at result IsTrue =
+AsksKeys whole failures whole_at failures_at lines slices keys places all sizes old new old_at new_at result IsTrue =
     AsksBy whole failures whole_at failures_at old new old_at new_at result IsTrue
-    (IsRefusedUnder whole failures whole_at failures_at lines slices all old new old_at new_at keys places)
+    (IsRefusedUnder whole failures whole_at failures_at lines slices all sizes old new old_at new_at keys places)

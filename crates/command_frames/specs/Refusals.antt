@@ -10,9 +10,9 @@ use Rattle.archive_core.specs.declared.lookup.Where.{Where}
 use Rattle.text_reports.specs.Answers.{answer_lines}
 use Rattle.text_reports.specs.Report.{line}
 use Rattle.text_reports.specs.Rows.{key_text}
-use Rattle.index_format.specs.Text.{placed_of}
+use Rattle.index_format.specs.Text.{placed_in}
 use Rattle.command_common.specs.FaultTexts.{command_fault_text}
-use Rattle.command_common.specs.Inputs.{EachUnfailed, Reader}
+use Rattle.command_common.specs.Inputs.{EachUnfailed, Gives, Reader}
 use Rattle.command_common.specs.declared.faults.CommandFault.TheVariants.{Input}
 use Rattle.command_common.specs.declared.faults.InputName.{InputName}
 use Rattle.command_common.specs.declared.faults.InputName.TheVariants.{Index}
@@ -21,7 +21,7 @@ use Rattle.command_common.specs.declared.faults.Status.TheVariants.{Done, Partia
 use Rattle.command_common.specs.declared.faults.Why.{Why}
 use Rattle.command_common.specs.declared.faults.Why.TheVariants.{Stale}
 use Rattle.command_queries.specs.Symbolicate.{Answered, is_symbol}
-use Rattle.command_given_indexes.specs.Prefixes.{IsStaleFor}
+use Rattle.command_given_indexes.specs.Prefixes.{IsUnnamedUnder}
 use Rattle.command_given_indexes.specs.Together.{AreNamedBy}
 use Rattle.index_lookup.specs.Among.{AreAnsweringAmong, AreTied, EntryAt}
 use Rattle.text_input_files.specs.declared.frame.Frame.{Frame}
@@ -63,7 +63,7 @@ pub record IsStaleAt {P : Type 0} (archives : List (Reader P)) (all : List (List
   pub entry : ℕ
   pub at_is : at ≡ Index number
   pub why_is : why ≡ Stale (Some entry)
-  pub stale : IsStaleFor (key ∷ []) archive (placed_of entries) (Some entry)
+  pub stale : Gives archive (λ text. IsUnnamedUnder (key ∷ []) (placed_in entries) text entry)
 
 -- A key is refused for a slice: two are tied under it, and one of those that are read for it is no longer in its
 -- archive. No device failed.

@@ -14,7 +14,7 @@ ghost use Rattle.command_frames.specs.InnerKeyReplies.{HaveEachTold, asked_in};
 
 use crate::evidence::FrameEvidence;
 use crate::key_answers::{KeyAnswers, answer_keys};
-use crate::named::frame_keys;
+use crate::named::{asked_uuids, frame_keys};
 use crate::places::asked_keys;
 use crate::replies::{answer_frames_by_keys, refused_lines};
 use crate::slices::with_slices;
@@ -23,7 +23,7 @@ use byte_device::{Placed, Sink, Source};
 use command_common::{CommandFault, Status, read_frames_input, write_report_bytes};
 use command_given_indexes::read_indexes;
 use heap_memory::{Heap, NoMemory};
-use index_format::Index;
+use index_format::IndexPart;
 use text_input_files::Frame;
 
 /// The lines of the replies to the frames; if `slices`, followed by those of the slices that answer under these keys,
@@ -32,7 +32,7 @@ fn print_frames(
     heap: &Heap,
     slices: bool,
     keys: &[SliceKey],
-    read: &[Index],
+    read: &[IndexPart],
     told: &[KeyAnswers<'_>],
     frames: &[Frame],
 ) -> Result<(Status, Vec<u8, Heap>), NoMemory>
@@ -50,10 +50,11 @@ fn print_frames(
 /// The status of the command and its lines for the frames: the answers of the indexes key by key, in the order of the
 /// keys' bytes; and if `slices`, the slices that answer under these keys.
 ///
-/// The indexes are read, and compared with the lengths of their archives. Then each key is answered: by tables, page by
-/// page, where those under one key are open at a time; or, if two slices of one length answer under the key in two
-/// archives, by the slices that the indexes name under this key, which are read at their offsets, tested and hashed.
-/// The lines of the slices follow, made from the entries of the indexes.
+/// The entries under the UUIDs of the keys and of the frames are read of the indexes, and the lengths that these tell
+/// are compared with those of their archives. Then each key is answered: by tables, page by page, where those under one
+/// key are open at a time; or, if two slices of one length answer under the key in two archives, by the slices that the
+/// indexes name under this key, which are read at their offsets, tested and hashed. The lines of the slices follow,
+/// made from the entries of the indexes.
 ///
 /// With `slices`, a key is refused alone if a table of it was changed or has no lines, or a slice of it that is read
 /// was changed: its frames have a mark in place of an answer, a line after all others has the key and the fault, and
@@ -74,9 +75,12 @@ pub(crate) fn answer_by_indexes<A: Archive + Drop, I: Placed, P: Placed>(
         (λ told. AreToldAt lines slices named known keys.now frames.now told.0 told.1.items)
         (AreRefusedAsking lines slices frames.now named known) (AreUnfailedTogether named known) }
 {
-    let read = read_indexes(heap, indexes, archives)?;
+    let uuids = asked_uuids(heap, keys, frames)?;
+    let (read, sizes) = read_indexes(heap, &uuids, indexes, archives)?;
     let asked = asked_keys(heap, frames)?;
-    let told = answer_keys::<A, I, P>(heap, &read, indexes, archives, lines, slices, &asked)?;
+    let told = answer_keys::<A, I, P>(
+        heap, &read, &sizes, indexes, archives, lines, slices, &asked,
+    )?;
     let shown = print_frames(heap, slices, keys, &read, &told, frames)?;
     Ok(shown)
 }

@@ -15,7 +15,7 @@ use archive_core::{Archive, SliceKey, Where};
 use byte_device::Placed;
 use command_common::CommandFault;
 use heap_memory::Heap;
-use index_format::Index;
+use index_format::IndexPart;
 
 /// A key that was asked for, and the answers for its addresses, or its refusal.
 #[derive(Drop)]
@@ -28,7 +28,8 @@ pub(crate) struct KeyAnswers<'k> {
 /// two are tied.
 fn answer_key<A: Archive + Drop, I: Placed, P: Placed>(
     heap: &Heap,
-    read: &[Index],
+    read: &[IndexPart],
+    sizes: &[u64],
     indexes: &mut [I],
     archives: &mut [P],
     key: &SliceKey,
@@ -38,15 +39,16 @@ fn answer_key<A: Archive + Drop, I: Placed, P: Placed>(
 ) -> Result<KeyReply, CommandFault>
     requires same { length read.now ≡ length indexes.old }
     requires many { length read.now ≡ length archives.old }
+    requires sizes { length sizes.now ≡ length archives.old }
     ensures { let known = readers P.whole P.failures archives.old archives.old in
         AsksKeys I.whole I.failures P.whole P.failures lines slices (key_bytes key.now ∷ []) places.now read.now
-        indexes.old indexes.new archives.old archives.new result
+        sizes.now indexes.old indexes.new archives.old archives.new result
         (IsKeyReply (IsAnsweredAt (HaveTexts I.whole indexes.old) known read.now lines key.now)
         (IsRefusedAt (HaveTexts I.whole indexes.old) known read.now lines key.now places.now) slices places.now) }
 {
     match answer_by_tables(heap, read, indexes, key, lines, slices, places)? {
         Some(told) => Ok(told),
-        None => answer_by_slices::<A, P>(heap, read, archives, key, lines, slices, places),
+        None => answer_by_slices::<A, P>(heap, read, sizes, archives, key, lines, slices, places),
     }
 }
 
@@ -54,7 +56,8 @@ fn answer_key<A: Archive + Drop, I: Placed, P: Placed>(
 /// that was changed or has no lines, and a slice that was changed, refuse their key alone.
 pub(crate) fn answer_keys<'k, A: Archive + Drop, I: Placed, P: Placed>(
     heap: &Heap,
-    read: &[Index],
+    read: &[IndexPart],
+    sizes: &[u64],
     indexes: &mut [I],
     archives: &mut [P],
     lines: bool,
@@ -63,20 +66,22 @@ pub(crate) fn answer_keys<'k, A: Archive + Drop, I: Placed, P: Placed>(
 ) -> Result<Vec<KeyAnswers<'k>, Heap>, CommandFault>
     requires same { length read.now ≡ length indexes.old }
     requires many { length read.now ≡ length archives.old }
+    requires sizes { length sizes.now ≡ length archives.old }
     ensures { let known = readers P.whole P.failures archives.old archives.old in
         let IsSaid = IsAnsweredAt (HaveTexts I.whole indexes.old) known read.now lines in
         let IsRefused = IsRefusedAt (HaveTexts I.whole indexes.old) known read.now lines in
         AsksBy I.whole I.failures P.whole P.failures indexes.old indexes.new archives.old archives.new result
         (λ told. AreTold IsSaid IsRefused slices asked.now told.items)
         (λ at why. IsRefusedAfter IsSaid IsRefused slices asked.now
-        (λ keys places. IsRefusedUnder I.whole I.failures P.whole P.failures lines slices read.now indexes.old
-        indexes.new archives.old archives.new keys places at why)) }
+        (λ keys places. IsRefusedUnder I.whole I.failures P.whole P.failures lines slices read.now sizes.now
+        indexes.old indexes.new archives.old archives.new keys places at why)) }
 {
     let mut told = Vec::new(heap.share());
     'keys: for one in asked {
         let answers = answer_key::<A, I, P>(
             heap,
             read,
+            sizes,
             indexes,
             archives,
             &one.key,

@@ -4,7 +4,8 @@ ghost use Rattle.std.specs.Prelude.{◌≡◌, All, IfOk, length, string_bytes};
 ghost use Rattle.archive_core.specs.Part.{is_under};
 ghost use Rattle.text_reports.specs.Slices.{TellsSlices};
 ghost use Rattle.index_lookup.specs.Among.{all_of};
-ghost use Rattle.command_given_indexes.specs.Rows.{AreRowsAmong, is_under_one};
+ghost use Rattle.command_given_indexes.specs.Rows.{AreRowsAmong};
+ghost use Rattle.index_format.specs.Tree.{is_under_one};
 ghost use Rattle.command_frames.specs.InnerSlices.{AreFollowed};
 ghost use Rattle.command_frames.specs.Slices.{IsAnsweringEntryRow};
 
@@ -13,12 +14,12 @@ use archive_core::{FindRow, SliceKey};
 use command_common::uuid_bytes;
 use command_given_indexes::rows_with_uuid;
 use heap_memory::{Heap, NoMemory};
-use index_format::Index;
+use index_format::IndexPart;
 use text_reports::slices_lines;
 use uuid::Uuid;
 
 /// The rows of the entries under a UUID, index by index.
-fn rows_in_each(heap: &Heap, uuid: Uuid, read: &[Index]) -> Result<Vec<FindRow, Heap>, NoMemory>
+fn rows_in_each(heap: &Heap, uuid: Uuid, read: &[IndexPart]) -> Result<Vec<FindRow, Heap>, NoMemory>
     ensures rows { IfOk result (λ rows. AreRowsAmong (is_under uuid) (all_of read.now) rows.items) }
     ensures long { length uuid ≡ 16 }
 {
@@ -32,7 +33,11 @@ fn rows_in_each(heap: &Heap, uuid: Uuid, read: &[Index]) -> Result<Vec<FindRow, 
 }
 
 /// The rows of the entries under UUIDs.
-fn rows_under(heap: &Heap, uuids: &[Uuid], read: &[Index]) -> Result<Vec<FindRow, Heap>, NoMemory>
+fn rows_under(
+    heap: &Heap,
+    uuids: &[Uuid],
+    read: &[IndexPart],
+) -> Result<Vec<FindRow, Heap>, NoMemory>
     ensures rows { IfOk result (λ rows. AreRowsAmong (is_under_one uuids.now) (all_of read.now) rows.items) }
     ensures long { IfOk result (λ _. All (λ uuid. length uuid ≡ 16) uuids.now) }
 {
@@ -45,7 +50,7 @@ fn rows_under(heap: &Heap, uuids: &[Uuid], read: &[Index]) -> Result<Vec<FindRow
 }
 
 /// The lines of the slices that answer under these keys, and of the keys without such a slice.
-fn slices_text(heap: &Heap, keys: &[SliceKey], read: &[Index]) -> Result<String<Heap>, NoMemory>
+fn slices_text(heap: &Heap, keys: &[SliceKey], read: &[IndexPart]) -> Result<String<Heap>, NoMemory>
     ensures { IfOk result (λ text.
         TellsSlices (IsAnsweringEntryRow read.now keys.now) keys.now (string_bytes text)) }
 {
@@ -59,7 +64,7 @@ pub(crate) fn with_slices(
     heap: &Heap,
     slices: bool,
     keys: &[SliceKey],
-    read: &[Index],
+    read: &[IndexPart],
     answers: Vec<u8, Heap>,
     refused: &str,
 ) -> Result<Vec<u8, Heap>, NoMemory>

@@ -19,7 +19,7 @@ use command_common::{CommandFault, InputName, Status, Why};
 use command_queries::{PlaceAnswer, address_in, status_after};
 use dwarf_source_frames::SourceFrame;
 use heap_memory::{Heap, NoMemory};
-use index_format::{Index, IndexFault, IndexFaultKind};
+use index_format::{IndexFault, IndexFaultKind, IndexPart};
 use index_lookup::laws::each_told;
 use index_lookup::{AnswerFault, Answers, answer_among, answering_entries};
 use text_reports::push_answer;
@@ -158,7 +158,7 @@ fn table_answers(
 /// that was changed or has no lines refuses the key alone.
 pub(crate) fn answer_by_tables<I: Placed>(
     heap: &Heap,
-    read: &[Index],
+    read: &[IndexPart],
     indexes: &mut [I],
     key: &SliceKey,
     lines: bool,

@@ -15,7 +15,7 @@ use command_common::{CommandFault, Why};
 use command_given_indexes::{KeyPrefix, read_prefixes};
 use command_queries::answer_places;
 use heap_memory::Heap;
-use index_format::Index;
+use index_format::IndexPart;
 
 /// Whether an index is stale at an entry.
 fn is_stale_entry(why: Why) -> bool
@@ -50,7 +50,8 @@ fn reply_to_unread(slices: bool, fault: CommandFault) -> Result<KeyReply, Comman
 /// a failed device, refuse all keys.
 pub(crate) fn answer_by_slices<A: Archive + Drop, P: Placed>(
     heap: &Heap,
-    read: &[Index],
+    read: &[IndexPart],
+    sizes: &[u64],
     archives: &mut [P],
     key: &SliceKey,
     lines: bool,
@@ -58,13 +59,14 @@ pub(crate) fn answer_by_slices<A: Archive + Drop, P: Placed>(
     places: &[Where],
 ) -> Result<KeyReply, CommandFault>
     requires many { length read.now ≡ length archives.old }
+    requires sizes { length sizes.now ≡ length archives.old }
     requires tied { AreTied (key_bytes key.now) read.now }
     ensures { let known = readers P.whole P.failures archives.old archives.old in
-        AsksSlices P.whole P.failures slices (key_bytes key.now ∷ []) read.now archives.old archives.new result
-        (IsKeyReply (IsAnsweredBySlices known read.now lines key.now) (IsKeyStale known read.now key.now) slices
+        AsksSlices P.whole P.failures slices (key_bytes key.now ∷ []) read.now sizes.now archives.old archives.new
+        result (IsKeyReply (IsAnsweredBySlices known read.now lines key.now) (IsKeyStale known read.now key.now) slices
         places.now) }
 {
-    match read_prefixes::<A, P>(heap, &[KeyPrefix::Key(*key)], read, archives) {
+    match read_prefixes::<A, P>(heap, &[KeyPrefix::Key(*key)], read, sizes, archives) {
         Ok(kept) => {
             let told = answer_places(heap, &kept, key, lines, places)?;
             Ok(KeyReply::Told(told))

@@ -1,16 +1,13 @@
 -- What an entry tells, as a row and as the entry of a summary; and entries that are gone through one after another.
-use Rattle.std.proofs.Common.{◌≡◌, ℕ, ◌+◌, ◌-◌, ◌<◌, ◌^◌, Bool, true, false, cond, ◌||◌, List, [], ◌∷◌, ◌++◌, length}
+use Rattle.std.proofs.Common.{◌≡◌, ℕ, ◌+◌, ◌-◌, ◌<◌, ◌^◌, Bool, true, ◌||◌, List, [], ◌∷◌, ◌++◌, length}
 use Rattle.std.proofs.Common.{map, take, drop, get_or, ◌⊎◌, refl, sym, ap, ◌∙◌, subst, arith, length-append}
 use Rattle.std.proofs.Common.{length-take, append_assoc, eqb}
-use Rattle.std.specs.Prelude.{filter}
 use Rattle.std.specs.Int.{w64, to_be_bytes}
 use Rattle.std.specs.List.{AllByRecursion, AllZip}
 use Rattle.std.proofs.Math.ListN.{length-map}
 use Rattle.std.proofs.Math.Seq.{take-append_seam, drop-append_seam, get_or-append_right}
-use Rattle.std.proofs.lemmas.List.{map-append, append-nil, take_more}
-use Rattle.std.proofs.lemmas.List.Elements.{filter_more}
+use Rattle.std.proofs.lemmas.List.{map-append, take_more}
 use Rattle.archive_core.specs.Key.{IsKey, key_bytes}
-use Rattle.archive_core.specs.Part.{is_under}
 use Rattle.archive_core.specs.declared.find.FindRow.{FindRow}
 use Rattle.archive_core.proofs.Compare.{length_key_bytes}
 use Rattle.archive_records.specs.Entry.{IsEntry}
@@ -116,29 +113,6 @@ module _ (entries : List IndexEntry) (i : ℕ) (e : IndexEntry) (lt : i < length
 
   at : placed_bytes e ≡ get_or all i []
   at = bytes_at entries i e (placed_bytes e) lt is refl
-
-  -- one more, which is under the prefix
-  pub one_picked : (prefix : List ℕ) (before after : List IndexEntry) → after ≡ before ++ e ∷ []
-      → is_under prefix (placed_bytes e) ≡ true → map placed_bytes before ≡ filter (is_under prefix) (take i all)
-      → map placed_bytes after ≡ filter (is_under prefix) (take (i + 1) all)
-  one_picked prefix before after grown under picked =
-      let one : cond (is_under prefix (get_or all i [])) (get_or all i [] ∷ []) [] ≡ placed_bytes e
-      ∷ [] = ap (λ (z : List ℕ). cond (is_under prefix z) (z ∷ []) []) (sym at)
-      ∙ ap (λ (b : Bool). cond b (placed_bytes e ∷ []) []) under in
-      ap (map placed_bytes) grown ∙ map-append placed_bytes before (e ∷ []) ∙ ap (λ (ys : List (List ℕ)). ys ++ placed_bytes e ∷ []) picked
-      ∙ sym (filter_more (is_under prefix) all i [] within ∙ ap (λ (ys : List (List ℕ)). filter (is_under prefix) (take i all) ++ ys) one)
-
-  -- one more, which is not
-  pub one_passed : (prefix : List ℕ) (before : List IndexEntry) → is_under prefix (placed_bytes e) ≡ false
-      → map placed_bytes before ≡ filter (is_under prefix) (take i all)
-      → map placed_bytes before ≡ filter (is_under prefix) (take (i + 1) all)
-  one_passed prefix before other picked =
-      let none : cond (is_under prefix (get_or all i [])) (get_or all i [] ∷ []) []
-      ≡ [] = ap (λ (z : List ℕ). cond (is_under prefix z) (z ∷ []) []) (sym at)
-      ∙ ap (λ (b : Bool). cond b (placed_bytes e ∷ []) []) other in
-      picked ∙ sym (filter_more (is_under prefix) all i [] within
-      ∙ ap (λ (ys : List (List ℕ)). filter (is_under prefix) (take i all) ++ ys) none
-      ∙ append-nil (filter (is_under prefix) (take i all)))
 
   -- one more row
   pub one_row : (rows after : List FindRow) (row : FindRow) → after ≡ rows ++ row ∷ [] → IsEntryRow (placed_bytes e) row

@@ -16,16 +16,16 @@ use Rattle.command_common.specs.declared.faults.InputName.{InputName}
 use Rattle.command_common.specs.declared.faults.InputName.TheVariants.{Archive as ArchivePlace}
 use Rattle.command_common.specs.declared.faults.Why.{Why}
 use Rattle.command_common.specs.declared.faults.Why.TheVariants.{Record}
-use Rattle.command_common.proofs.Readers.{all_take, readers_long, rest_kept, set_one, unfailed_more, untouched_behind}
-use Rattle.index_format.specs.Text.{placed_of}
+use Rattle.command_common.proofs.Readers.{all_take, pairs_long, pairs_more, readers_long, rest_kept, set_one, unfailed_more, untouched_behind}
+use Rattle.index_format.specs.Text.{placed_in}
 use Rattle.byte_device.specs.Devices.{FailsWithin}
-use Rattle.command_given_indexes.specs.Prefixes.{FailsAt, FailsFor, HoldsNamed, TellsPlace}
-use Rattle.command_given_indexes.specs.Indexes.{IsRefusedByIndex}
+use Rattle.command_given_indexes.specs.Prefixes.{FailsAt, FailsFor, HasLength, HoldsNamed, TellsPlace}
+use Rattle.command_given_indexes.specs.Indexes.{IsRefusedByPart}
 use Rattle.command_given_indexes.specs.InnerParts.{HaveJoinedGroups, IsNamedIn}
 use Rattle.command_given_indexes.specs.Several.{AreRefusedLater, AreRefusedTogether, AreUnfailedTogether, HoldTogether}
 use Rattle.command_given_indexes.specs.Together.{AllThree, AreAllKept, AreLater, AreNamedBy, AreReadWith, HoldNamed}
 use Rattle.command_given_indexes.specs.Together.{IsFirstRefusedAtPlaces, IsFirstRefusedByIndex, IsKept, IsOneOf}
-use Rattle.command_given_indexes.specs.Together.{HaveSameBytes, IsReadWith, IsRefusedAtPlaces}
+use Rattle.command_given_indexes.specs.Together.{HaveLengths, HaveSameBytes, IsReadWith, IsRefusedAtPlaces}
 
 three_more : {X Y Z : Type 0} (R : X → Y → Z → Type 0) (xs : List X) (ys : List Y) (zs : List Z) (x : X) (y : Y) (z : Z)
     → AllThree R xs ys zs → R x y z → AllThree R (xs ++ x ∷ []) (ys ++ y ∷ []) (zs ++ z ∷ [])
@@ -39,23 +39,37 @@ three_long R (_ ∷ xs) (_ ∷ ys) (_ ∷ zs) all = ap suc (three_long R xs ys z
 three_long R xs ys zs all = absurd all
 
 -- as many indexes are read as there are archives
-pub as_many : {I P : Type 0} (indexes : List (Reader I)) (whole : P → Option (List ℕ)) (failures : P → ℕ) (before seen : List P)
-    (all : List (List (List ℕ))) → AreReadWith indexes (readers whole failures before seen) all → length seen ≡ length before → length all ≡ length seen
-as_many indexes whole failures before seen all read long =
-    three_long IsReadWith indexes (readers whole failures before seen) all read ∙ readers_long whole failures before seen long ∙ sym long
+pub as_many : {I P : Type 0} (uuids : List (List ℕ)) (indexes : List (Reader I)) (whole : P → Option (List ℕ)) (failures : P → ℕ) (before seen : List P)
+    (all : List (List (List ℕ))) → AreReadWith uuids indexes (readers whole failures before seen) all → length seen ≡ length before → length all ≡ length seen
+as_many uuids indexes whole failures before seen all read long =
+    three_long (IsReadWith uuids) indexes (readers whole failures before seen) all read ∙ readers_long whole failures before seen long ∙ sym long
+
+-- and as many lengths
+pub as_many_lengths : {P : Type 0} (whole : P → Option (List ℕ)) (failures : P → ℕ) (before seen : List P) (sizes : List ℕ)
+    → HaveLengths (readers whole failures before seen) sizes → length seen ≡ length before → length sizes ≡ length seen
+as_many_lengths whole failures before seen sizes long_each long =
+    pairs_long HasLength (readers whole failures before seen) sizes long_each ∙ readers_long whole failures before seen long ∙ sym long
 
 -- ---- indexes that were read with their archives
 
-pub read_more : {I P : Type 0} (indexes seen_indexes : List (Reader I)) (archives seen_archives : List (Reader P))
+pub lengths_more : {P : Type 0} (archives seen_archives : List (Reader P)) (sizes every : List ℕ) (archive : Reader P) (size : ℕ)
+    → seen_archives ≡ archives ++ archive ∷ [] → every ≡ sizes ++ size ∷ [] → HaveLengths archives sizes → HasLength archive size
+    → HaveLengths seen_archives every
+lengths_more {P} archives seen_archives sizes every archive size archives_are sizes_are before one =
+    subst (λ (ones : List (Reader P)). HaveLengths ones every) (sym archives_are)
+    (subst (λ (ns : List ℕ). HaveLengths (archives ++ archive ∷ []) ns) (sym sizes_are)
+    (pairs_more HasLength archives sizes archive size before one))
+
+pub read_more : {I P : Type 0} (uuids : List (List ℕ)) (indexes seen_indexes : List (Reader I)) (archives seen_archives : List (Reader P))
     (all every : List (List (List ℕ))) (index : Reader I) (archive : Reader P) (entries : List (List ℕ))
     → seen_indexes ≡ indexes ++ index ∷ [] → seen_archives ≡ archives ++ archive ∷ [] → every ≡ all ++ entries ∷ []
-    → AreReadWith indexes archives all → IsReadWith index archive entries
-    → AreReadWith seen_indexes seen_archives every
-read_more {I} {P} indexes seen_indexes archives seen_archives all every index archive entries indexes_are archives_are all_are before one =
-    subst (λ (is : List (Reader I)). AreReadWith is seen_archives every) (sym indexes_are)
-    (subst (λ (ones : List (Reader P)). AreReadWith (indexes ++ index ∷ []) ones every) (sym archives_are)
-    (subst (λ (es : List (List (List ℕ))). AreReadWith (indexes ++ index ∷ []) (archives ++ archive ∷ []) es) (sym all_are)
-    (three_more IsReadWith indexes archives all index archive entries before one)))
+    → AreReadWith uuids indexes archives all → IsReadWith uuids index archive entries
+    → AreReadWith uuids seen_indexes seen_archives every
+read_more {I} {P} uuids indexes seen_indexes archives seen_archives all every index archive entries indexes_are archives_are all_are before one =
+    subst (λ (is : List (Reader I)). AreReadWith uuids is seen_archives every) (sym indexes_are)
+    (subst (λ (ones : List (Reader P)). AreReadWith uuids (indexes ++ index ∷ []) ones every) (sym archives_are)
+    (subst (λ (es : List (List (List ℕ))). AreReadWith uuids (indexes ++ index ∷ []) (archives ++ archive ∷ []) es) (sym all_are)
+    (three_more (IsReadWith uuids) indexes archives all index archive entries before one)))
 
 -- ---- groups of contents, one for each archive
 
@@ -65,12 +79,12 @@ module _ {P : Type 0} (prefixes : List (List ℕ)) where
 
   pub groups_more : (archives seen : List (Reader P)) (all every : List (List (List ℕ))) (archive : Reader P) (entries : List (List ℕ)) (o mid new : Operations)
       → seen ≡ archives ++ archive ∷ [] → every ≡ all ++ entries ∷ [] → HaveJoinedGroups prefixes archives all o mid
-      → IsNamedIn archive prefixes (placed_of entries) mid new → HaveJoinedGroups prefixes seen every o new
+      → IsNamedIn archive prefixes (placed_in entries) mid new → HaveJoinedGroups prefixes seen every o new
   groups_more archives seen all every archive entries o mid new archives_are all_are h j = record {
     groups = h.groups ++ j.parts ∷ [];
     named = subst (λ (ones : List (Reader P)). AreNamedBy prefixes ones every (h.groups ++ j.parts ∷ [])) (sym archives_are)
         (subst (λ (es : List (List (List ℕ))). AreNamedBy prefixes (archives ++ archive ∷ []) es (h.groups ++ j.parts ∷ [])) (sym all_are)
-        (three_more (λ (a : Reader P) (es : List (List ℕ)) (ps : List Operations). HoldsNamed prefixes a (placed_of es)
+        (three_more (λ (a : Reader P) (es : List (List ℕ)) (ps : List Operations). HoldsNamed prefixes a (placed_in es)
         ps) archives all h.groups archive entries j.parts h.named j.named));
     content = j.content ∙ ap (λ (m : Operations). merged m j.parts) h.content ∙ sym (fold-append merged o h.groups (j.parts ∷ []));
   }
@@ -158,21 +172,32 @@ module _ {S : Type 0} (left : S → Option (List ℕ)) (failures : S → ℕ) wh
       (here, unfailed_through xs ys zs rest rest_more first.1 second.1)
 
   -- what was read with the first states was so whatever the last are
-  pub read_earlier : {I : Type 0} (indexes : List (Reader I)) (old mid new : List S) (all : List (List (List ℕ)))
-      → length mid ≡ length old → length new ≡ length old → AreReadWith indexes (between old mid) all
-      → AreReadWith indexes (between old new) all
-  read_earlier indexes [] mid new all long more read = read
-  read_earlier indexes (x ∷ xs) [] new all long more read = absurd (omega (arith, long))
-  read_earlier indexes (x ∷ xs) (y ∷ ys) [] all long more read = absurd (omega (arith, more))
-  read_earlier (index ∷ indexes) (x ∷ xs) (y ∷ ys) (z ∷ zs) (entries ∷ all) long more read =
+  pub read_earlier : {I : Type 0} (uuids : List (List ℕ)) (indexes : List (Reader I)) (old mid new : List S) (all : List (List (List ℕ)))
+      → length mid ≡ length old → length new ≡ length old → AreReadWith uuids indexes (between old mid) all
+      → AreReadWith uuids indexes (between old new) all
+  read_earlier uuids indexes [] mid new all long more read = read
+  read_earlier uuids indexes (x ∷ xs) [] new all long more read = absurd (omega (arith, long))
+  read_earlier uuids indexes (x ∷ xs) (y ∷ ys) [] all long more read = absurd (omega (arith, more))
+  read_earlier uuids (index ∷ indexes) (x ∷ xs) (y ∷ ys) (z ∷ zs) (entries ∷ all) long more read =
       let rest : length ys ≡ length xs = omega (arith, long) in
       let rest_more : length zs ≡ length xs = omega (arith, more) in
-      (record { index_is = read.0.index_is; archive_is = read.0.archive_is }, read_earlier indexes xs ys zs all rest rest_more read.1)
-  read_earlier indexes old mid new all long more read = absurd read
+      (record { size = read.0.size; index_is = read.0.index_is; archive_is = read.0.archive_is }, read_earlier uuids indexes xs ys zs all rest rest_more read.1)
+  read_earlier uuids indexes old mid new all long more read = absurd read
+
+  pub lengths_earlier : (old mid new : List S) (sizes : List ℕ) → length mid ≡ length old → length new ≡ length old
+      → HaveLengths (between old mid) sizes → HaveLengths (between old new) sizes
+  lengths_earlier [] mid new sizes long more each = each
+  lengths_earlier (x ∷ xs) [] new sizes long more each = absurd (omega (arith, long))
+  lengths_earlier (x ∷ xs) (y ∷ ys) [] sizes long more each = absurd (omega (arith, more))
+  lengths_earlier (x ∷ xs) (y ∷ ys) (z ∷ zs) [] long more each = each
+  lengths_earlier (x ∷ xs) (y ∷ ys) (z ∷ zs) (n ∷ ns) long more each =
+      let rest : length ys ≡ length xs = omega (arith, long) in
+      let rest_more : length zs ≡ length xs = omega (arith, more) in
+      (each.0, lengths_earlier xs ys zs ns rest rest_more each.1)
 
 -- ---- one of the indexes, or its archive, is refused
 
-module _ {I P : Type 0} (left : I → Option (List ℕ)) (failures : I → ℕ) (whole : P → Option (List ℕ)) (failures_at : P → ℕ)
+module _ {I P : Type 0} (uuids : List (List ℕ)) (left : I → Option (List ℕ)) (failures : I → ℕ) (whole : P → Option (List ℕ)) (failures_at : P → ℕ)
     (old now : List I) (before seen : List P) (place : ℕ) (file after : I) (archive later : P)
     (lt : place < length old) (long : length now ≡ length old) (is : file ≡ get_or old place file)
     (rest : drop place now ≡ drop place old) (each : EachUnfailed (readers left failures old now))
@@ -186,16 +211,16 @@ module _ {I P : Type 0} (left : I → Option (List ℕ)) (failures : I → ℕ) 
   archives = readers whole failures_at before (set seen place later)
 
   pub pair_refused : (all : List (List (List ℕ))) (fault : CommandFault)
-      → AreReadWith (take place (readers left failures old now)) (take place (readers whole failures_at before seen))
+      → AreReadWith uuids (take place (readers left failures old now)) (take place (readers whole failures_at before seen))
       all
-      → IsRefusal (IsRefusedByIndex place (reader left failures file after) (reader whole failures_at archive later))
+      → IsRefusal (IsRefusedByPart uuids place (reader left failures file after) (reader whole failures_at archive later))
       (Unfailed (reader left failures file after) × Unfailed (reader whole failures_at archive later)) fault
-      → IsRefusal (IsFirstRefusedByIndex indexes archives) (EachUnfailed indexes × EachUnfailed archives) fault
+      → IsRefusal (IsFirstRefusedByIndex uuids indexes archives) (EachUnfailed indexes × EachUnfailed archives) fault
   pair_refused all (Input at why) read r = record {
     number = place;
     all = all;
-    before = subst (λ (is : List (Reader I)). AreReadWith is (take place archives) all) (sym (front_kept left failures old now place after))
-        (subst (λ (ones : List (Reader P)). AreReadWith (take place (readers left failures old now)) ones all)
+    before = subst (λ (is : List (Reader I)). AreReadWith uuids is (take place archives) all) (sym (front_kept left failures old now place after))
+        (subst (λ (ones : List (Reader P)). AreReadWith uuids (take place (readers left failures old now)) ones all)
         (sym (front_kept whole failures_at before seen place later)) read);
     index = reader left failures file after;
     archive = reader whole failures_at archive later;
@@ -212,17 +237,18 @@ module _ {I P : Type 0} (left : I → Option (List ℕ)) (failures : I → ℕ) 
 -- ---- one of the archives is refused
 
 module _ {P : Type 0} (whole : P → Option (List ℕ)) (failures : P → ℕ) (prefixes : List (List ℕ)) (all : List (List (List ℕ)))
-    (before seen : List P) (place : ℕ) (archive later : P) (entries : List (List ℕ))
+    (sizes : List ℕ) (before seen : List P) (place : ℕ) (archive later : P) (entries : List (List ℕ)) (size : ℕ)
     (lt : place < length before) (long : length seen ≡ length before) (is : archive ≡ get_or before place archive)
     (rest : drop place seen ≡ drop place before) (each : EachUnfailed (readers whole failures before seen))
-    (few : place < length all) (entries_are : entries ≡ get_or all place entries) where
+    (few : place < length all) (entries_are : entries ≡ get_or all place entries)
+    (enough : place < length sizes) (size_is : size ≡ get_or sizes place 0) where
   abbrev ones : List (Reader P)
   ones = readers whole failures before (set seen place later)
 
   pub one_refused : (o mid : Operations) (fault : CommandFault)
       → HaveJoinedGroups prefixes (take place (readers whole failures before seen)) (take place all) o mid
-      → IsRefusal (IsRefusedAtPlaces prefixes place (reader whole failures archive later) entries) (Unfailed (reader whole failures archive later)) fault
-      → IsRefusal (IsFirstRefusedAtPlaces prefixes ones all) (EachUnfailed ones) fault
+      → IsRefusal (IsRefusedAtPlaces prefixes place (reader whole failures archive later) entries size) (Unfailed (reader whole failures archive later)) fault
+      → IsRefusal (IsFirstRefusedAtPlaces prefixes ones all sizes) (EachUnfailed ones) fault
   one_refused o mid (Input at why) h r = record {
     number = place;
     groups = h.groups;
@@ -232,6 +258,8 @@ module _ {P : Type 0} (whole : P → Option (List ℕ)) (failures : P → ℕ) (
     archive_is = one_of whole failures before seen place archive later lt long is rest each;
     entries = entries;
     entries_are = slice_get_read all (length all) place entries refl few entries_are;
+    size = size;
+    size_is = slice_get-get_or sizes place 0 enough ∙ ap Some (sym size_is);
     refused = r;
   }
   one_refused o mid OutOfMemory h r = unfailed_more whole failures before seen place archive later lt long is each r
@@ -243,13 +271,13 @@ pub place_in_all : {P : Type 0} (whole : P → Option (List ℕ)) (failures : P 
     (archive later : P) (entries : List (List ℕ)) → place < length before → length seen ≡ length before
     → archive ≡ get_or before place archive → place < length all → entries ≡ get_or all place entries → (fault : CommandFault)
     → TellsPlace (λ named offset. (named ≡ place) × FailsFor (unmeasured archive later)
-    (FailsWithin whole failures unread archive later) prefixes (placed_of entries) offset) fault
+    (FailsWithin whole failures unread archive later) prefixes (placed_in entries) offset) fault
     → TellsPlace (FailsAt whole failures unread unmeasured prefixes before (set seen place later) all) fault
 place_in_all whole failures unread unmeasured prefixes all before seen place archive later entries lt long is few entries_are (Input at why) h =
     by at why h
   where
     there : (number offset : ℕ) → number ≡ place → FailsFor (unmeasured archive later) (FailsWithin whole failures unread archive later)
-        prefixes (placed_of entries) offset
+        prefixes (placed_in entries) offset
         → FailsAt whole failures unread unmeasured prefixes before (set seen place later) all number offset
     there number offset same fails = subst (λ (n : ℕ). FailsAt whole failures unread unmeasured prefixes before (set seen place later) all n offset)
         (sym same) (record {
@@ -264,7 +292,7 @@ place_in_all whole failures unread unmeasured prefixes all before seen place arc
         })
 
     by : (name : InputName) (reason : Why) → TellsPlace (λ named offset. (named ≡ place) × FailsFor (unmeasured archive later)
-        (FailsWithin whole failures unread archive later) prefixes (placed_of entries) offset) (Input name reason)
+        (FailsWithin whole failures unread archive later) prefixes (placed_in entries) offset) (Input name reason)
         → TellsPlace (FailsAt whole failures unread unmeasured prefixes before (set seen place later) all) (Input name reason)
     by (ArchivePlace number) (Record fault) h = there number fault.offset h.0 h.1
     by name reason h = tt
@@ -273,18 +301,19 @@ place_in_all whole failures unread unmeasured prefixes all before seen place arc
 -- ---- all of them
 
 -- indexes, which were read and are not read any more, or one of which was refused with its archive
-pub first_refused : {I P : Type 0} (prefixes : List (List ℕ)) (indexes : List (Reader I)) (archives : List (Reader P))
-    (fault : CommandFault) → IsRefusal (IsFirstRefusedByIndex indexes archives)
+pub first_refused : {I P : Type 0} (uuids prefixes : List (List ℕ)) (indexes : List (Reader I)) (archives : List (Reader P))
+    (fault : CommandFault) → IsRefusal (IsFirstRefusedByIndex uuids indexes archives)
     (EachUnfailed indexes × EachUnfailed archives) fault
-    → IsRefusal (AreRefusedTogether prefixes indexes archives) (AreUnfailedTogether indexes archives) fault
-first_refused prefixes indexes archives (Input at why) r = inl r
-first_refused prefixes indexes archives OutOfMemory r = r
-first_refused prefixes indexes archives fault r = absurd r
+    → IsRefusal (AreRefusedTogether uuids prefixes indexes archives) (AreUnfailedTogether indexes archives) fault
+first_refused uuids prefixes indexes archives (Input at why) r = inl r
+first_refused uuids prefixes indexes archives OutOfMemory r = r
+first_refused uuids prefixes indexes archives fault r = absurd r
 
-module _ {I P : Type 0} (prefixes : List (List ℕ)) (indexes : List (Reader I)) (whole : P → Option (List ℕ))
-    (failures : P → ℕ) (old mid new : List P) (all : List (List (List ℕ)))
+module _ {I P : Type 0} (uuids prefixes : List (List ℕ)) (indexes : List (Reader I)) (whole : P → Option (List ℕ))
+    (failures : P → ℕ) (old mid new : List P) (all : List (List (List ℕ))) (sizes : List ℕ)
     (long : length mid ≡ length old) (more : length new ≡ length old)
-    (read : AreReadWith indexes (readers whole failures old mid) all)
+    (read : AreReadWith uuids indexes (readers whole failures old mid) all)
+    (lengths : HaveLengths (readers whole failures old mid) sizes)
     (unfailed : EachUnfailed indexes × EachUnfailed (readers whole failures old mid))
     (kept : AreAllKept whole failures old mid) where
   abbrev known : List (Reader P)
@@ -296,12 +325,14 @@ module _ {I P : Type 0} (prefixes : List (List ℕ)) (indexes : List (Reader I))
   as_long : length new ≡ length mid
   as_long = more ∙ sym long
 
-  refused_later : (fault : CommandFault) → IsRefusal (IsFirstRefusedAtPlaces prefixes later all) (EachUnfailed later)
-      fault → IsRefusal (AreRefusedTogether prefixes indexes known) (AreUnfailedTogether indexes known) fault
+  refused_later : (fault : CommandFault) → IsRefusal (IsFirstRefusedAtPlaces prefixes later all sizes) (EachUnfailed later)
+      fault → IsRefusal (AreRefusedTogether uuids prefixes indexes known) (AreUnfailedTogether indexes known) fault
   refused_later (Input at why) r =
-      let told : AreRefusedLater prefixes indexes known at why = record {
+      let told : AreRefusedLater uuids prefixes indexes known at why = record {
         all = all;
-        read = read_earlier whole failures indexes old mid new all long more read;
+        read = read_earlier whole failures uuids indexes old mid new all long more read;
+        sizes = sizes;
+        lengths = lengths_earlier whole failures old mid new sizes long more lengths;
         unfailed = unfailed.0;
         later = later;
         are_later = later_readers whole failures old mid new as_long kept;
@@ -311,10 +342,10 @@ module _ {I P : Type 0} (prefixes : List (List ℕ)) (indexes : List (Reader I))
   refused_later OutOfMemory r = (unfailed.0, unfailed_through whole failures old mid new long more unfailed.1 r)
   refused_later fault r = absurd r
 
-  held_later : (p : Operations) → HoldNamed prefixes later all p → HoldTogether prefixes indexes known p
+  held_later : (p : Operations) → HoldNamed prefixes later all p → HoldTogether uuids prefixes indexes known p
   held_later p named = record {
     all = all;
-    read = read_earlier whole failures indexes old mid new all long more read;
+    read = read_earlier whole failures uuids indexes old mid new all long more read;
     later = later;
     are_later = later_readers whole failures old mid new as_long kept;
     named = named;
@@ -325,9 +356,9 @@ module _ {I P : Type 0} (prefixes : List (List ℕ)) (indexes : List (Reader I))
 
   -- what comes of reading the archives once more is what comes of all
   pub reads_later : {T : Type 0} (content : T → Operations) (r : Result T CommandFault)
-      → ReadsInputs r (λ kept. HoldNamed prefixes later all (content kept)) (IsFirstRefusedAtPlaces prefixes later all)
+      → ReadsInputs r (λ kept. HoldNamed prefixes later all (content kept)) (IsFirstRefusedAtPlaces prefixes later all sizes)
       (EachUnfailed later)
-      → ReadsInputs r (λ kept. HoldTogether prefixes indexes known (content kept))
-      (AreRefusedTogether prefixes indexes known) (AreUnfailedTogether indexes known)
+      → ReadsInputs r (λ kept. HoldTogether uuids prefixes indexes known (content kept))
+      (AreRefusedTogether uuids prefixes indexes known) (AreUnfailedTogether indexes known)
   reads_later content (Ok kept) r = record { is = held_later (content kept) r.is; unfailed = unfailed_later r.unfailed }
   reads_later content (Err fault) r = refused_later fault r

@@ -9,8 +9,7 @@ use Rattle.std.proofs.lemmas.List.Sums.{fold-append}
 use Rattle.std.proofs.lemmas.Option.{IfSome_then}
 use Rattle.archive_core.specs.Content.{Operations, IsMade, content_of, joined, with_record, with_records}
 use Rattle.archive_core.proofs.Taken.{made_taken, taken_are_joined}
-use Rattle.archive_core.specs.Summary.{Entries}
-use Rattle.index_format.specs.Places.{BlamesPlaced, FailsUnder, HasIndexedLength, IsNamedBy, IsStale, entries_under}
+use Rattle.index_format.specs.Places.{BlamesPlaced, FailsUnder, IsNamedBy, IsStale, entries_under}
 use Rattle.index_format.specs.declared.fault.PlaceFault.{PlaceFault}
 use Rattle.index_format.specs.declared.fault.PlaceFault.TheVariants.{Stale, Device, OutOfMemory}
 use Rattle.command_common.specs.Archives.{merged}
@@ -19,7 +18,7 @@ use Rattle.command_common.proofs.Readers.{pairs_more}
 use Rattle.index_format.specs.Gathering.{AreGatheredUnder, IsEntryFault}
 use Rattle.index_format.proofs.Gathered.{along_both, known}
 use Rattle.command_given_indexes.specs.declared.prefixes.KeyPrefix.{KeyPrefix}
-use Rattle.index_format.specs.Text.{placed_of}
+use Rattle.index_format.specs.Text.{placed_in}
 use Rattle.command_given_indexes.specs.Prefixes.{AreNamedUnder, FailsFor, FailsUnderOne, IsReadFor, TellsPlace, prefix_bytes}
 use Rattle.command_given_indexes.specs.InnerParts.{HasJoinedNamed, HaveGathered, IsFaultAmong, IsFaultUnder, IsNamedIn, told_fault}
 use Rattle.command_given_indexes.specs.Together.{IsRefusedAtPlaces}
@@ -30,20 +29,20 @@ abbrev made : List (List ℕ) → Operations
 made records = content_of (set.from_list records)
 
 -- a group for each prefix, of records that its entries name
-abbrev AreGroups : List (List ℕ) → Entries → List (List (List ℕ)) → List ℕ → Type 0
+abbrev AreGroups : List (List ℕ) → List (List ℕ) → List (List (List ℕ)) → List ℕ → Type 0
 AreGroups prefixes entries groups text = AllZip (λ (prefix : List ℕ) (records : List (List ℕ)). AllZip (IsNamedBy text)
     (entries_under prefix entries) records) prefixes groups
 
-named_groups : (text : List ℕ) (prefixes : List (List ℕ)) (entries : Entries) (groups : List (List (List ℕ)))
+named_groups : (text : List ℕ) (prefixes : List (List ℕ)) (entries : List (List ℕ)) (groups : List (List (List ℕ)))
     → AreGroups prefixes entries groups text → AreNamedUnder prefixes entries text (map made groups)
 named_groups text [] entries [] a = tt
 named_groups text (f ∷ fs) entries (g ∷ gs) a = (record { records = g; named = a.0; made = refl }, named_groups text fs entries gs a.1)
 named_groups text prefixes entries groups a = absurd a
 
-pub gathered_none : (whole : Option (List ℕ)) (entries : Entries) (old : List (List ℕ)) → HaveGathered whole [] entries old old
+pub gathered_none : (whole : Option (List ℕ)) (entries : List (List ℕ)) (old : List (List ℕ)) → HaveGathered whole [] entries old old
 gathered_none whole entries old = record { groups = []; named = known (AreGroups [] entries []) whole (λ text. tt); behind = sym (append-nil old) }
 
-module _ (whole now : Option (List ℕ)) (prefixes : List KeyPrefix) (i : ℕ) (prefix : KeyPrefix) (entries : Entries)
+module _ (whole now : Option (List ℕ)) (prefixes : List KeyPrefix) (i : ℕ) (prefix : KeyPrefix) (entries : List (List ℕ))
     (lt : i < length prefixes) (is : prefix ≡ get_or prefixes i prefix) (keeps : now ≡ whole) where
   at : prefix_bytes prefix ≡ get_or (map prefix_bytes prefixes) i []
   at = ap prefix_bytes is ∙ sym (get_or-map prefix_bytes prefixes i prefix [] lt)
@@ -104,18 +103,18 @@ module _ (whole now : Option (List ℕ)) (prefixes : List KeyPrefix) (i : ℕ) (
         i,
         omega (arith, lt, length-map prefixes prefix_bytes),
         (map made before.groups, named_groups text (take i (map prefix_bytes prefixes)) entries before.groups a),
-        subst (λ (f : List ℕ). IsStale f entries text (Some k)) at b,
+        subst (λ (f : List ℕ). IsStale f entries text k) at b,
       )
       by (Device offset) text a b = tt
       by OutOfMemory text a b = tt
 
 -- the text has the length that the index tells, and an entry names no record of it
-pub fault_then : (prefixes : List (List ℕ)) (entries : Entries) (text : List ℕ) (fault : PlaceFault)
-    → HasIndexedLength entries text → IsFaultAmong prefixes entries text fault
-    → IsFaultUnder prefixes entries text fault
-fault_then prefixes entries text (Stale None) long f = absurd f
-fault_then prefixes entries text (Stale (Some k)) long f = (long, f)
-fault_then prefixes entries text fault long f = tt
+pub fault_then : (prefixes : List (List ℕ)) (entries : List (List ℕ)) (size : ℕ) (text : List ℕ) (fault : PlaceFault)
+    → length text ≡ size → IsFaultAmong prefixes entries text fault → IsFaultUnder prefixes entries size text fault
+fault_then prefixes entries size text (Stale None) long f = absurd f
+fault_then prefixes entries size text (Stale (Some k)) long f = (long, f)
+fault_then prefixes entries size text (Device offset) long f = tt
+fault_then prefixes entries size text OutOfMemory long f = tt
 
 -- what was gathered is taken together, as its groups one after another
 taken_groups : (o : Operations) (groups : List (List (List ℕ))) → IsMade o
@@ -126,7 +125,7 @@ taken_groups o (g ∷ gs) is =
     ∙ taken_groups (with_records o g) gs (made_taken o g is)
     ∙ ap (λ (s : Operations). merged s (map made gs)) (taken_are_joined o g is)
 
-pub joined_together : (whole : Option (List ℕ)) (prefixes : List (List ℕ)) (entries : Entries)
+pub joined_together : (whole : Option (List ℕ)) (prefixes : List (List ℕ)) (entries : List (List ℕ))
     (old gathered : List (List ℕ)) (o new : Operations) → IsMade o → old ≡ []
     → HaveGathered whole prefixes entries old gathered → new ≡ joined o (content_of (set.from_list gathered))
     → HasJoinedNamed whole prefixes entries o new
@@ -142,25 +141,21 @@ joined_together whole prefixes entries old gathered o new is none h taken = reco
 
 -- by what its index says of records
 module _ {S : Type 0} (whole : S → Option (List ℕ)) (failures : S → ℕ) (source after : S) (prefixes : List (List ℕ))
-    (entries : Entries) (tables : List (List ℕ)) (placed : entries ≡ placed_of tables) where
+    (tables : List (List ℕ)) (size : ℕ) where
   abbrev archive : Reader S
   archive = reader whole failures source after
 
-  pub named_in : (old new : Operations) → IfSome (whole source) (HasIndexedLength entries)
-      → HasJoinedNamed (whole source) prefixes entries old new → IsNamedIn archive prefixes (placed_of tables) old new
-  named_in old new long h = subst (λ (e : Entries). IsNamedIn archive prefixes e old new) placed (record {
-    parts = h.parts;
-    content = h.content;
-    named = along_both (HasIndexedLength entries) (λ text. AreNamedUnder prefixes entries text h.parts)
-        (λ text. HasIndexedLength entries text × AreNamedUnder prefixes entries text h.parts) (whole source)
-        (λ text l a. (l, a)) long h.named;
-  })
+  abbrev entries : List (List ℕ)
+  entries = placed_in tables
+
+  pub named_in : (old new : Operations) → HasJoinedNamed (whole source) prefixes entries old new → IsNamedIn archive prefixes entries old new
+  named_in old new h = record { parts = h.parts; content = h.content; named = h.named }
 
   -- where it failed it was read
-  read_for : (IsUnmeasured : Type 0) (Fails : ℕ → ℕ → Type 0) (es : Entries) (n : ℕ) → FailsFor IsUnmeasured Fails prefixes es n
-      → IsReadFor prefixes es n
-  read_for IsUnmeasured Fails es n (inl h) = inl h.0
-  read_for IsUnmeasured Fails es n (inr (i, lt, f)) = inr (
+  read_for : (IsUnmeasured : Type 0) (Fails : ℕ → ℕ → Type 0) (n : ℕ) → FailsFor IsUnmeasured Fails prefixes entries n
+      → IsReadFor prefixes entries n
+  read_for IsUnmeasured Fails n (inl h) = inl h.0
+  read_for IsUnmeasured Fails n (inr (i, lt, f)) = inr (
     i,
     lt,
     record { number = f.number; within = f.within; passing = f.passing; admits = f.admits; offset_is = f.offset_is },
@@ -168,27 +163,15 @@ module _ {S : Type 0} (whole : S → Option (List ℕ)) (failures : S → ℕ) (
 
   -- what is told where this fault came of it
   pub told_refused : (IsUnmeasured : Type 0) (Fails : ℕ → ℕ → Type 0) (number : ℕ) (fault : PlaceFault)
-      → IfSome (whole source) (λ text. IsFaultUnder prefixes entries text fault)
+      → IfSome (whole source) (λ text. IsFaultUnder prefixes entries size text fault)
       → BlamesPlaced (FailsFor IsUnmeasured Fails prefixes entries) failures source after fault
-      → IsRefusal (IsRefusedAtPlaces prefixes number archive tables) (Unfailed archive) (told_fault number fault)
-  told_refused IsUnmeasured Fails number (Stale entry) h b = inr (
-    refl,
-    b,
-    (
-      entry,
-      refl,
-      subst (λ (e : Entries). IfSome (whole source) (λ text. IsFaultUnder prefixes e text (Stale entry)))
-          placed h,
-    ),
-  )
-  told_refused IsUnmeasured Fails number (Device offset) h b = inl (
-    refl,
-    (refl, subst (λ (e : Entries). IsReadFor prefixes e offset) placed (read_for IsUnmeasured Fails entries offset b.1), b.0),
-  )
+      → IsRefusal (IsRefusedAtPlaces prefixes number archive tables size) (Unfailed archive) (told_fault number fault)
+  told_refused IsUnmeasured Fails number (Stale entry) h b = inr (refl, b, (entry, refl, h))
+  told_refused IsUnmeasured Fails number (Device offset) h b = inl (refl, (refl, read_for IsUnmeasured Fails offset b.1, b.0))
   told_refused IsUnmeasured Fails number OutOfMemory h b = b
 
 -- a read that failed, from an earlier state
-pub fails_as_one : (Fails More : ℕ → ℕ → Type 0) (prefixes : List (List ℕ)) (entries : Entries) (n : ℕ)
+pub fails_as_one : (Fails More : ℕ → ℕ → Type 0) (prefixes : List (List ℕ)) (entries : List (List ℕ)) (n : ℕ)
     → ((start count : ℕ) → Fails start count → More start count) → FailsUnderOne Fails prefixes entries n
     → FailsUnderOne More prefixes entries n
 fails_as_one Fails More prefixes entries n more (i, lt, f) = (

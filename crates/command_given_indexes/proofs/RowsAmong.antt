@@ -1,18 +1,19 @@
 -- Rows of the entries that pass a test: of a run, of two tests, of several lists.
-use Rattle.std.proofs.Common.{◌≡◌, ℕ, zero, suc, ◌+◌, ◌-◌, ◌<◌, ◌≤◌, ◌⊎◌, Bool, true, false, ◌&&◌, ◌||◌, List, [], ◌∷◌}
+use Rattle.std.proofs.Common.{◌≡◌, ℕ, zero, suc, ◌+◌, ◌<◌, ◌≤◌, ◌⊎◌, Bool, true, false, cond, ◌&&◌, ◌||◌, List, [], ◌∷◌}
 use Rattle.std.proofs.Common.{◌++◌, length, map, take, drop, get_or, refl, sym, ap, ◌∙◌, subst, inl, inr, arith, eqb}
-use Rattle.std.specs.List.{All, AllZip, Contains}
-use Rattle.std.proofs.Math.ListN.{length-map}
-use Rattle.std.proofs.lemmas.Bool.{and_from, and_parts, cases_lt, or_cases, or_left, or_right, true≢false}
-use Rattle.std.proofs.lemmas.List.{drop-append-le, get_or-drop, get_or-map, get_or-take, take-append-le}
-use Rattle.std.proofs.lemmas.List.Elements.{All-contains, All-map, All-weaker, Contains-append_cases, Contains-append_left, Contains-append_right}
+use Rattle.std.specs.Prelude.{filter}
+use Rattle.std.specs.List.{All, AllZip, Contains, enumerate_from}
+use Rattle.std.proofs.lemmas.Bool.{and_from, and_parts, or_cases, true≢false}
+use Rattle.std.proofs.lemmas.List.{drop-append-le, take-append-le}
+use Rattle.std.proofs.lemmas.List.Elements.{All-contains, Contains-append_cases, Contains-append_left, Contains-append_right}
+use Rattle.std.proofs.lemmas.Slice.Zip.{seconds-zip}
 use Rattle.archive_core.specs.Part.{is_under}
 use Rattle.archive_core.specs.declared.find.FindRow.{FindRow}
-use Rattle.archive_core.proofs.Members.{in_cons, in_front, in_map, in_rest, to_map}
+use Rattle.archive_core.proofs.Members.{in_cons, in_filter, in_front, in_map, in_rest, to_filter, to_map}
 use Rattle.index_format.specs.Entry.{HasItsFields, entry_bytes, has_tag, placed_bytes}
-use Rattle.index_format.specs.Runs.{IsRun, is_tagged}
+use Rattle.index_format.specs.Runs.{is_tagged}
+use Rattle.index_format.specs.Spread.{AreNumbered, HasTagIfRead}
 use Rattle.index_format.specs.declared.entry.IndexEntry.{IndexEntry}
-use Rattle.index_format.proofs.RunLemmas.{length_run}
 use Rattle.command_given_indexes.specs.Rows.{AreRowsAmong, IsEntryRow}
 
 -- ---- rows one by one
@@ -67,88 +68,47 @@ row_with_claim : (x : IndexEntry) (row : FindRow) → HasItsFields x → IsEntry
 unfolding entry_bytes
 row_with_claim x row fields is = with_claim (placed_bytes x) _ row fields.placed.long is
 
-record HasTag (e : List ℕ) : Type 0 where
-  tag : has_tag e ≡ true
-
-tag_with_claim : (a b : List ℕ) → length a ≡ 74 → has_tag a ≡ true → HasTag (a ++ b)
-tag_with_claim a b long is = record { tag = ap (λ (n : ℕ). eqb n 1 || eqb n 2) (there_in 0 a b 0 (omega (arith, long))) ∙ is }
-
-tagged_entry : (x : IndexEntry) → HasItsFields x → HasTag (entry_bytes x)
-unfolding entry_bytes
-tagged_entry x fields = tag_with_claim (placed_bytes x) _ fields.placed.long fields.placed.tag
-
--- each entry has a tag
-pub tags_of : (entries : List IndexEntry) (es : List (List ℕ)) → map entry_bytes entries ≡ es → All HasItsFields entries → All (λ e. has_tag e ≡ true) es
-tags_of entries es are fields = subst (λ (l : List (List ℕ)). All (λ e. has_tag e ≡ true) l) are
-    (All-map (λ (e : List ℕ). has_tag e ≡ true) entry_bytes entries
-    (All-weaker HasItsFields (λ (x : IndexEntry). has_tag (entry_bytes x) ≡ true) (λ x f. (tagged_entry x f).tag)
-    entries fields))
-
 -- ---- those of a run
 
-module _ (entries : List IndexEntry) (es : List (List ℕ)) (are : map entry_bytes entries ≡ es) (fields : All HasItsFields entries)
-    (passes : List ℕ → Bool) (start stop : ℕ) (run : IsRun passes (map entry_bytes entries) start stop) where
-  abbrev part : List IndexEntry
-  part = take (stop - start) (drop start entries)
+pub map_cond : {X Y : Type 0} (f : X → Y) (b : Bool) (x : X) (xs : List X) → map f (cond b (x ∷ xs) xs) ≡ cond b (f x ∷ map f xs) (map f xs)
+map_cond f true x xs = refl
+map_cond f false x xs = refl
 
-  within : stop ≤ length entries
-  within = omega (arith, run.within, length-map entries entry_bytes)
+without_numbers : (passes : List ℕ → Bool) (n : ℕ) (es : List (List ℕ))
+    → map (λ (x : ℕ × List ℕ). x.1) (filter (λ (x : ℕ × List ℕ). passes x.1) (enumerate_from n es)) ≡ filter passes es
+without_numbers passes n [] = refl
+without_numbers passes n (e ∷ es) =
+    map_cond (λ (x : ℕ × List ℕ). x.1) (passes e) (n, e) (filter (λ (x : ℕ × List ℕ). passes x.1) (enumerate_from (n + 1) es))
+    ∙ ap (λ (l : List (List ℕ)). cond (passes e) (e ∷ l) l) (without_numbers passes (n + 1) es)
 
-  long : length part ≡ stop - start
-  long = length_run entries start stop run.ordered within
+-- they are the entries that pass
+pub run_is : (passes : List ℕ → Bool) (es : List (List ℕ)) (numbers : List ℕ) (run : List (List ℕ)) → AreNumbered passes es numbers run
+    → run ≡ filter passes es
+run_is passes es numbers run h =
+    sym (seconds-zip numbers run (sym h.many)) ∙ ap (map (λ (x : ℕ × List ℕ). x.1)) h.are ∙ without_numbers passes 0 es
 
-  in_part : (x : IndexEntry) → Contains part x → Contains entries x × (passes (entry_bytes x) ≡ true)
-  in_part x (i, lt, at) =
-      let inside : i < stop - start = omega (arith, lt, long) in
-      let place : start + i < length entries = omega (arith, inside, within, run.ordered) in
-      let there : get_or entries (start + i) x ≡ x = sym (get_or-take (stop - start) (drop start entries) i x inside ∙ get_or-drop start entries i x) ∙ at in
-      let bytes : get_or (map entry_bytes entries) (start + i) (entry_bytes x)
-      ≡ entry_bytes x = get_or-map entry_bytes entries (start + i) x (entry_bytes x) place ∙ ap entry_bytes there in
-      ((start + i, place, there), ap passes (sym bytes) ∙ run.inside (start + i) (entry_bytes x) (omega arith) (omega (arith, inside)))
-
-  to_part : (x : IndexEntry) → Contains entries x → passes (entry_bytes x) ≡ true → Contains part x
-  to_part x (k, lt, at) is =
-      let bytes : get_or (map entry_bytes entries) k (entry_bytes x)
-      ≡ entry_bytes x = get_or-map entry_bytes entries k x (entry_bytes x) lt ∙ ap entry_bytes at in
-      let passed : passes (get_or (map entry_bytes entries) k (entry_bytes x)) ≡ true = ap passes bytes ∙ is in
-      let many : k < length (map entry_bytes entries) = omega (arith, lt, length-map entries entry_bytes) in
-      let low : start ≤ k = elim (cases_lt k start) [
-        | inl before ↦ absurd (true≢false (sym passed ∙ run.before k (entry_bytes x) (omega arith) before))
-        | inr from ↦ from
-      ] in
-      let high : k < stop = elim (cases_lt k stop) [
-        | inl before ↦ before
-        | inr from ↦ absurd (true≢false (sym passed ∙ run.behind k (entry_bytes x) from many))
-      ] in
-      let inside : k - start < stop - start = omega (arith, low, high) in
-      let place : start + (k - start) ≡ k = omega (arith, low) in (
-        k - start,
-        omega (arith, inside, long),
-        get_or-take (stop - start) (drop start entries) (k - start) x inside ∙ get_or-drop start entries (k - start) x
-            ∙ ap (λ (n : ℕ). get_or entries n x) place ∙ at,
-      )
-
-  pub rows_of_run : (rows : List FindRow) → AllZip IsEntryRow (map placed_bytes part) rows → AreRowsAmong passes es rows
-  rows_of_run rows each = record {
-    of_entries = λ row there.
-        let placed = zip_of (map placed_bytes part) rows row each there in
-        let x = in_map placed_bytes part placed.0 placed.1 in
-        let has = in_part x.0 x.1 in (
-          entry_bytes x.0,
-          subst (λ (l : List (List ℕ)). Contains l (entry_bytes x.0)) are (to_map entry_bytes entries x.0 has.0),
-          has.1,
-          row_with_claim x.0 row (All-contains HasItsFields entries x.0 fields has.0) (subst (λ (e : List ℕ). IsEntryRow e row) x.2 placed.2),
-        );
-    whole = λ entry there is.
-        let x = in_map entry_bytes entries entry (subst (λ (l : List (List ℕ)). Contains l entry) (sym are) there) in
-        let has = to_part x.0 x.1 (ap passes (sym x.2) ∙ is) in
-        let row = to_zip (map placed_bytes part) rows (placed_bytes x.0) each (to_map placed_bytes part x.0 has) in (
-          row.0,
-          row.1,
-          subst (λ (e : List ℕ). IsEntryRow e row.0) (sym x.2)
-              (row_with_claim x.0 row.0 (All-contains HasItsFields entries x.0 fields x.1) row.2),
-        );
-  }
+pub rows_of_run : (run : List IndexEntry) (es : List (List ℕ)) (passes : List ℕ → Bool) → map entry_bytes run ≡ filter passes es
+    → All HasItsFields run → (rows : List FindRow) → AllZip IsEntryRow (map placed_bytes run) rows → AreRowsAmong passes es rows
+rows_of_run run es passes are fields rows each = record {
+  of_entries = λ row there.
+      let placed = zip_of (map placed_bytes run) rows row each there in
+      let x = in_map placed_bytes run placed.0 placed.1 in
+      let has = in_filter passes es (entry_bytes x.0)
+      (subst (λ (l : List (List ℕ)). Contains l (entry_bytes x.0)) are (to_map entry_bytes run x.0 x.1)) in (
+        entry_bytes x.0,
+        has.0,
+        has.1,
+        row_with_claim x.0 row (All-contains HasItsFields run x.0 fields x.1) (subst (λ (e : List ℕ). IsEntryRow e row) x.2 placed.2),
+      );
+  whole = λ entry there is.
+      let x = in_map entry_bytes run entry (subst (λ (l : List (List ℕ)). Contains l entry) (sym are) (to_filter passes es entry there is)) in
+      let row = to_zip (map placed_bytes run) rows (placed_bytes x.0) each (to_map placed_bytes run x.0 x.1) in (
+        row.0,
+        row.1,
+        subst (λ (e : List ℕ). IsEntryRow e row.0) (sym x.2)
+            (row_with_claim x.0 row.0 (All-contains HasItsFields run x.0 fields x.1) row.2),
+      );
+}
 
 -- ---- those that pass one of two tests
 
@@ -166,6 +126,15 @@ rows_either p q r es rows more first second from_p from_q to = record {
   ];
 }
 
+pub none_under : (prefix : List ℕ) → 0 < length prefix → is_under prefix [] ≡ false
+unfolding is_under
+none_under [] some = absurd (omega (arith, some))
+none_under (x ∷ xs) some = refl
+
+tag_under : (prefix e : List ℕ) → 0 < length prefix → HasTagIfRead e → is_under prefix e ≡ true → has_tag e ≡ true
+tag_under prefix e some (inl none) is = absurd (true≢false (sym is ∙ ap (is_under prefix) none ∙ none_under prefix some))
+tag_under prefix e some (inr tag) is = tag
+
 tag_of : (t : ℕ) (u : Bool) → (eqb t 1 || eqb t 2) ≡ true → u ≡ true → ((eqb t 1 && u) ≡ true) ⊎ ((eqb t 2 && u) ≡ true)
 tag_of t u tag is = elim (or_cases (eqb t 1) (eqb t 2) tag) [
   | inl h ↦ inl (and_from (eqb t 1) u h is)
@@ -173,13 +142,13 @@ tag_of t u tag is = elim (or_cases (eqb t 1) (eqb t 2) tag) [
 ]
 
 -- the retirements and the admissions under a prefix
-pub rows_of_tags : (prefix : List ℕ) (es : List (List ℕ)) (rows more : List FindRow) → All (λ e. has_tag e ≡ true) es
+pub rows_of_tags : (prefix : List ℕ) (es : List (List ℕ)) (rows more : List FindRow) → 0 < length prefix → All HasTagIfRead es
     → AreRowsAmong (is_tagged 1 prefix) es rows → AreRowsAmong (is_tagged 2 prefix) es more
     → AreRowsAmong (is_under prefix) es (rows ++ more)
-rows_of_tags prefix es rows more tags first second =
+rows_of_tags prefix es rows more some tags first second =
     rows_either (is_tagged 1 prefix) (is_tagged 2 prefix) (is_under prefix) es rows more first second
     (λ e there is. (and_parts (eqb (get_or e 0 0) 1) (is_under prefix e) is).1) (λ e there is. (and_parts (eqb (get_or e 0 0) 2) (is_under prefix e) is).1)
-    (λ e there is. tag_of (get_or e 0 0) (is_under prefix e) (All-contains (λ (x : List ℕ). has_tag x ≡ true) es e tags there) is)
+    (λ e there is. tag_of (get_or e 0 0) (is_under prefix e) (tag_under prefix e some (All-contains HasTagIfRead es e tags there) is) is)
 
 -- ---- those of two lists
 

@@ -8,8 +8,10 @@ use Rattle.archive_core.specs.Summary.{Entries}
 use Rattle.archive_core.specs.declared.find.FindRow.{FindRow}
 use Rattle.command_common.specs.Asked.{Asked, of_first}
 use Rattle.command_common.specs.Inputs.{Reader, Unfailed}
-use Rattle.command_given_indexes.specs.Indexes.{IsIndexOf, IsRefusedByIndex}
+use Rattle.index_format.specs.Text.{placed_in}
+use Rattle.command_given_indexes.specs.Indexes.{IsIndexOf, IsRefusedByIndex, IsRefusedByPart}
 use Rattle.command_given_indexes.specs.Rows.{AreIndexRows}
+use Rattle.command_given_indexes.specs.Together.{IsReadWith}
 use Rattle.command_given_indexes.specs.Several.{AreRefusedTogether, AreUnfailedTogether, HoldTogether}
 
 -- ---- by the entries of one index, and the length of its archive
@@ -28,9 +30,9 @@ asked_of_entries index archive IsTrue = record {
   Unfailed = Unfailed index × Unfailed archive;
 }
 
--- the rows of the entries under a prefix: a UUID, or the empty one
-abbrev pub rows_at : {R S : Type 0} → Reader R → Reader S → List ℕ → Asked (List FindRow)
-rows_at index archive prefix = asked_of_entries index archive (λ entries rows. AreIndexRows prefix entries rows)
+-- all rows of an index
+abbrev pub rows_listed : {R S : Type 0} → Reader R → Reader S → Asked (List FindRow)
+rows_listed index archive = asked_of_entries index archive (λ entries rows. AreIndexRows [] (listing entries) rows)
 
 -- the summary of an index: its entries without their kinds and offsets
 abbrev pub summary_in : Entries → Entries
@@ -46,13 +48,30 @@ abbrev pub of_first_pair : {I P T : Type 0} → (Reader I → Reader P → Asked
 of_first_pair asked indexes archives =
     of_first (λ index _. of_first (λ archive _. asked index archive) archives) indexes
 
+-- ---- by the entries under a UUID, and the length of the archive
+
+-- Of the entries of INDEX those under a UUID were read, and these are their rows; ARCHIVE has the length stated there.
+pub record HasRows {R S : Type 0} (uuid : List ℕ) (index : Reader R) (archive : Reader S) (rows : List FindRow)
+    : Type 0 where
+  pub all : List (List ℕ)
+  pub read : IsReadWith (uuid ∷ []) index archive all
+  pub rows_are : AreIndexRows uuid (placed_in all) rows
+
+-- the rows of the entries under a UUID
+abbrev pub rows_at : {R S : Type 0} → Reader R → Reader S → List ℕ → Asked (List FindRow)
+rows_at index archive uuid = record {
+  Has = λ rows. HasRows uuid index archive rows;
+  Refuses = IsRefusedByPart (uuid ∷ []) 0 index archive;
+  Unfailed = Unfailed index × Unfailed archive;
+}
+
 -- ---- by the slices that indexes name
 
 -- the rows under a UUID of the slices that the indexes of archives name there
 abbrev pub rows_joined : {I P : Type 0} → List (Reader I) → List (Reader P) → List ℕ → Asked (List FindRow)
 rows_joined indexes archives uuid = record {
-  Has = λ rows. (content : Operations) × HoldTogether (uuid ∷ []) indexes archives content × IsFinds content uuid rows;
-  Refuses = AreRefusedTogether (uuid ∷ []) indexes archives;
+  Has = λ rows. (content : Operations) × HoldTogether (uuid ∷ []) (uuid ∷ []) indexes archives content × IsFinds content uuid rows;
+  Refuses = AreRefusedTogether (uuid ∷ []) (uuid ∷ []) indexes archives;
   Unfailed = AreUnfailedTogether indexes archives;
 }
 

@@ -2,7 +2,6 @@
 use Rattle.std.specs.Prelude.{◌≡◌, ℕ, List, ◌++◌, Option, Some, None, IfSome, flat_map}
 use Rattle.std.specs.List.{AllZip}
 use Rattle.archive_core.specs.Content.{Operations}
-use Rattle.archive_core.specs.Summary.{Entries}
 use Rattle.index_format.specs.declared.fault.PlaceFault.{PlaceFault}
 use Rattle.index_format.specs.declared.fault.PlaceFault.TheVariants.{Stale, Device, OutOfMemory}
 use Rattle.index_format.specs.Places.{IsNamedBy, entries_under}
@@ -18,7 +17,7 @@ use Rattle.command_given_indexes.specs.Together.{AreNamedBy, merged_each}
 
 -- each entry under each of these prefixes names one of the records of its group, in order, and the groups follow the
 -- records that were gathered before
-pub record HaveGathered (whole : Option (List ℕ)) (prefixes : List (List ℕ)) (entries : Entries)
+pub record HaveGathered (whole : Option (List ℕ)) (prefixes : List (List ℕ)) (entries : List (List ℕ))
     (old new : List (List ℕ)) : Type 0 where
   pub groups : List (List (List ℕ))
   pub named : IfSome whole (λ text. AllZip (λ prefix records.
@@ -26,31 +25,31 @@ pub record HaveGathered (whole : Option (List ℕ)) (prefixes : List (List ℕ))
   pub behind : new ≡ old ++ flat_map (λ records. records) groups
 
 -- why no records were gathered: an entry names no record
-abbrev pub IsFaultAmong : List (List ℕ) → Entries → List ℕ → PlaceFault → Type 0
+abbrev pub IsFaultAmong : List (List ℕ) → List (List ℕ) → List ℕ → PlaceFault → Type 0
 IsFaultAmong prefixes entries text (Stale None) = ⊥
 IsFaultAmong prefixes entries text (Stale (Some entry)) = IsUnnamedUnder prefixes entries text entry
 IsFaultAmong prefixes entries text (Device offset) = Unit {0}
 IsFaultAmong prefixes entries text OutOfMemory = Unit {0}
 
 -- the records that the entries under these prefixes name were joined to the content
-pub record HasJoinedNamed (whole : Option (List ℕ)) (prefixes : List (List ℕ)) (entries : Entries)
+pub record HasJoinedNamed (whole : Option (List ℕ)) (prefixes : List (List ℕ)) (entries : List (List ℕ))
     (old new : Operations) : Type 0 where
   pub parts : List Operations
   pub content : new ≡ merged old parts
   pub named : IfSome whole (λ text. AreNamedUnder prefixes entries text parts)
 
--- the same for an input, which has the length that the entries state
-pub record IsNamedIn {S : Type 0} (archive : Reader S) (prefixes : List (List ℕ)) (entries : Entries)
+-- the same for an input
+pub record IsNamedIn {S : Type 0} (archive : Reader S) (prefixes : List (List ℕ)) (entries : List (List ℕ))
     (old new : Operations) : Type 0 where
   pub parts : List Operations
   pub content : new ≡ merged old parts
   pub named : HoldsNamed prefixes archive entries parts
 
 -- why they were not
-abbrev pub IsFaultUnder : List (List ℕ) → Entries → List ℕ → PlaceFault → Type 0
-IsFaultUnder prefixes entries text (Stale entry) = IsStaleUnder prefixes entries text entry
-IsFaultUnder prefixes entries text (Device offset) = Unit {0}
-IsFaultUnder prefixes entries text OutOfMemory = Unit {0}
+abbrev pub IsFaultUnder : List (List ℕ) → List (List ℕ) → ℕ → List ℕ → PlaceFault → Type 0
+IsFaultUnder prefixes entries size text (Stale entry) = IsStaleUnder prefixes entries size text entry
+IsFaultUnder prefixes entries size text (Device offset) = Unit {0}
+IsFaultUnder prefixes entries size text OutOfMemory = Unit {0}
 
 -- the same, as a fault of the archive with this number
 abbrev pub told_fault : ℕ → PlaceFault → CommandFault

@@ -1,12 +1,11 @@
 -- The records that an index names under several prefixes of keys.
-use Rattle.std.specs.Prelude.{◌≡◌, ◌<◌, ◌⊎◌, ℕ, List, [], Option, Some, None, length, take, slice_get, slice_index_or}
+use Rattle.std.specs.Prelude.{◌≡◌, ◌≢◌, ◌<◌, ◌⊎◌, ℕ, List, [], Option, Some, None, length, take, slice_get, slice_index_or}
 use Rattle.std.specs.List.{AllZip}
 use Rattle.archive_core.specs.Content.{Operations}
 use Rattle.archive_core.specs.Key.{key_bytes}
-use Rattle.archive_core.specs.Summary.{Entries}
 use Rattle.byte_device.specs.Devices.{FailsWithin}
-use Rattle.index_format.specs.Places.{AreNamed, FailsUnder, HasIndexedLength, IsReadUnder, IsStale}
-use Rattle.index_format.specs.Text.{placed_of}
+use Rattle.index_format.specs.Places.{AreNamed, FailsUnder, IsReadUnder, IsStale}
+use Rattle.index_format.specs.Text.{placed_in}
 use Rattle.command_common.specs.Inputs.{Reader, Gives}
 use Rattle.command_common.specs.declared.faults.CommandFault.{CommandFault}
 use Rattle.command_common.specs.declared.faults.CommandFault.TheVariants.{Input}
@@ -22,51 +21,52 @@ prefix_bytes (Key key) = key_bytes key
 
 -- for each of these prefixes, in order, the records of the text that the entries under it name make one of these
 -- contents
-abbrev pub AreNamedUnder : List (List ℕ) → Entries → List ℕ → List Operations → Type 0
+abbrev pub AreNamedUnder : List (List ℕ) → List (List ℕ) → List ℕ → List Operations → Type 0
 AreNamedUnder prefixes entries text parts = AllZip (λ prefix part. AreNamed prefix entries text part) prefixes parts
 
 -- at the first of these prefixes with an entry that names no record of the text, it is this entry
-abbrev pub IsUnnamedUnder : List (List ℕ) → Entries → List ℕ → ℕ → Type 0
+abbrev pub IsUnnamedUnder : List (List ℕ) → List (List ℕ) → List ℕ → ℕ → Type 0
 IsUnnamedUnder prefixes entries text entry =
     (number : ℕ) × (number < length prefixes)
     × ((parts : List Operations) × AreNamedUnder (take number prefixes) entries text parts)
-    × IsStale (slice_index_or prefixes number []) entries text (Some entry)
+    × IsStale (slice_index_or prefixes number []) entries text entry
 
--- Why no records are named so: the text has another length than the index states; or it has that length, and this entry
--- names no record of it.
-abbrev pub IsStaleUnder : List (List ℕ) → Entries → List ℕ → Option ℕ → Type 0
-IsStaleUnder prefixes entries text None = HasIndexedLength entries text → ⊥
-IsStaleUnder prefixes entries text (Some entry) =
-    HasIndexedLength entries text × IsUnnamedUnder prefixes entries text entry
+-- Why no records are named so: the text has another length than this; or it has this length, and this entry names no
+-- record of it.
+abbrev pub IsStaleUnder : List (List ℕ) → List (List ℕ) → ℕ → List ℕ → Option ℕ → Type 0
+IsStaleUnder prefixes entries size text None = length text ≢ size
+IsStaleUnder prefixes entries size text (Some entry) = (length text ≡ size) × IsUnnamedUnder prefixes entries text entry
 
 -- the record of an admission whose entry is under one of these prefixes begins at this offset
-abbrev pub IsReadUnderOne : List (List ℕ) → Entries → ℕ → Type 0
+abbrev pub IsReadUnderOne : List (List ℕ) → List (List ℕ) → ℕ → Type 0
 IsReadUnderOne prefixes entries offset =
     (number : ℕ) × (number < length prefixes) × IsReadUnder (slice_index_or prefixes number []) entries offset
 
 -- where an archive is read by its index: its length is read, at offset 0, or such a record is read
-abbrev pub IsReadFor : List (List ℕ) → Entries → ℕ → Type 0
+abbrev pub IsReadFor : List (List ℕ) → List (List ℕ) → ℕ → Type 0
 IsReadFor prefixes entries offset = (offset ≡ 0) ⊎ IsReadUnderOne prefixes entries offset
 
--- ARCHIVE has the length that the index states, and for each of these prefixes the records that the entries under it
--- name make one of these contents.
-abbrev pub HoldsNamed : {S : Type 0} → List (List ℕ) → Reader S → Entries → List Operations → Type 0
-HoldsNamed prefixes archive entries parts =
-    Gives archive (λ text. HasIndexedLength entries text × AreNamedUnder prefixes entries text parts)
+-- for each of these prefixes, the records of ARCHIVE that the entries under it name make one of these contents
+abbrev pub HoldsNamed : {S : Type 0} → List (List ℕ) → Reader S → List (List ℕ) → List Operations → Type 0
+HoldsNamed prefixes archive entries parts = Gives archive (λ text. AreNamedUnder prefixes entries text parts)
 
--- the index is not of this archive, as far as these prefixes show
-abbrev pub IsStaleFor : {S : Type 0} → List (List ℕ) → Reader S → Entries → Option ℕ → Type 0
-IsStaleFor prefixes archive entries entry = Gives archive (λ text. IsStaleUnder prefixes entries text entry)
+-- the archive has this length
+abbrev pub HasLength : {S : Type 0} → Reader S → ℕ → Type 0
+HasLength archive size = Gives archive (λ text. length text ≡ size)
+
+-- the index, which tells this length, is not of this archive, as far as these prefixes show
+abbrev pub IsStaleFor : {S : Type 0} → List (List ℕ) → Reader S → List (List ℕ) → ℕ → Option ℕ → Type 0
+IsStaleFor prefixes archive entries size entry = Gives archive (λ text. IsStaleUnder prefixes entries size text entry)
 
 -- ---- which read failed
 
 -- a read of the record of an entry under one of these prefixes failed; the record begins at this offset
-abbrev pub FailsUnderOne : (ℕ → ℕ → Type 0) → List (List ℕ) → Entries → ℕ → Type 0
+abbrev pub FailsUnderOne : (ℕ → ℕ → Type 0) → List (List ℕ) → List (List ℕ) → ℕ → Type 0
 FailsUnderOne Fails prefixes entries offset =
     (number : ℕ) × (number < length prefixes) × FailsUnder Fails (slice_index_or prefixes number []) entries offset
 
 -- where the device of an archive that was read by its index failed: at its length, offset 0, or in such a record
-abbrev pub FailsFor : Type 0 → (ℕ → ℕ → Type 0) → List (List ℕ) → Entries → ℕ → Type 0
+abbrev pub FailsFor : Type 0 → (ℕ → ℕ → Type 0) → List (List ℕ) → List (List ℕ) → ℕ → Type 0
 FailsFor IsUnmeasured Fails prefixes entries offset =
     ((offset ≡ 0) × IsUnmeasured) ⊎ FailsUnderOne Fails prefixes entries offset
 
@@ -80,7 +80,7 @@ pub record FailsAt {P : Type 0} (whole : P → Option (List ℕ)) (failures : P 
   pub old_is : slice_get olds number ≡ Some old
   pub new_is : slice_get news number ≡ Some new
   pub entries_are : slice_get all number ≡ Some entries
-  pub fails : FailsFor (unmeasured old new) (FailsWithin whole failures unread old new) prefixes (placed_of entries)
+  pub fails : FailsFor (unmeasured old new) (FailsWithin whole failures unread old new) prefixes (placed_in entries)
       offset
 
 -- a refusal for the device of an archive has the number of the archive and the offset of the failed read

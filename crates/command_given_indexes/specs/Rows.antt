@@ -1,12 +1,10 @@
 -- The rows of an index.
 use Rattle.std.specs.Prelude.{◌≡◌, List, ℕ, Bool, true, Contains, take, drop, slice_index}
-use Rattle.std.specs.List.{AllZip, list_any}
+use Rattle.std.specs.List.{AllZip}
 use Rattle.std.specs.List.Sorted.{IsPermutation, IsSortedBy, IsStableBy}
 use Rattle.std.specs.Ordering.{nat_cmp, is_lt}
 use Rattle.std.specs.Cmp.Lexicographic.{slice_cmp}
 use Rattle.archive_core.specs.Key.{IsKey, key_bytes}
-use Rattle.archive_core.specs.Part.{is_under}
-use Rattle.archive_core.specs.Summary.{Entries}
 use Rattle.archive_core.specs.declared.find.FindRow.{FindRow}
 use Rattle.index_format.specs.Entry.{dsym_byte, offset_in, tag_byte}
 use Rattle.index_format.specs.Places.{entries_under}
@@ -29,7 +27,7 @@ has_lower_key a b = is_lt (slice_cmp nat_cmp (key_bytes a.key) (key_bytes b.key)
 
 -- The rows of the entries under a prefix, a UUID or the empty one: by key, and those of a key by the offsets of their
 -- records.
-pub record AreIndexRows (prefix : List ℕ) (entries : Entries) (rows : List FindRow) : Type 0 where
+pub record AreIndexRows (prefix : List ℕ) (entries : List (List ℕ)) (rows : List FindRow) : Type 0 where
   pub placed : List (List ℕ)
   pub moved : IsPermutation (entries_under prefix entries) placed
   pub by_offset : IsSortedBy stands_before placed
@@ -44,7 +42,3 @@ pub record AreRowsAmong (passes : List ℕ → Bool) (entries : List (List ℕ))
       → (entry : List ℕ) × Contains entries entry × (passes entry ≡ true) × IsEntryRow entry row
   pub whole : (entry : List ℕ) → Contains entries entry → passes entry ≡ true
       → (row : FindRow) × Contains rows row × IsEntryRow entry row
-
--- the key of an entry begins with one of these
-abbrev pub is_under_one : List (List ℕ) → List ℕ → Bool
-is_under_one prefixes entry = list_any (λ prefix. is_under prefix entry) prefixes

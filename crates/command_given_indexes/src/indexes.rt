@@ -1,12 +1,13 @@
 //! Archives that are read by their indexes.
 
-ghost use Rattle.std.specs.Prelude.{◌≡◌, ◌<◌, [], length};
+ghost use Rattle.std.specs.Prelude.{◌≡◌, ◌<◌, length};
 ghost use Rattle.command_common.specs.Inputs.{ReadsInputs, reader, readers};
-ghost use Rattle.command_given_indexes.specs.Answered.{of_first_pair, rows_at, rows_by, rows_joined, summary_told};
+ghost use Rattle.command_given_indexes.specs.Answered.{of_first_pair, rows_at, rows_by, rows_joined, rows_listed};
+ghost use Rattle.command_given_indexes.specs.Answered.{summary_told};
 
-use crate::inputs::read_first_index;
+use crate::inputs::{read_first_index, read_matching_part};
 use crate::prefixes::KeyPrefix;
-use crate::rows::rows_under;
+use crate::rows::{rows_listed, rows_under};
 use crate::summaries::summary_of;
 use crate::together::read_archives_by_indexes;
 use archive_core::{Archive, FindRow};
@@ -26,19 +27,34 @@ pub struct Indexes<'a, I, P> {
     pub archives: &'a mut [P],
 }
 
-/// The rows of the entries of an index under a prefix: a UUID, or the empty one.
+/// The rows of the entries of an index under a UUID.
 fn rows_at<I: Placed, P: Placed>(
     heap: Heap,
     index: &mut I,
     archive: &mut P,
-    prefix: &[u8],
+    uuid: &Uuid,
 ) -> Result<Vec<FindRow, Heap>, CommandFault>
     ensures { let asked = rows_at (reader I.whole I.failures index.old index.new)
-        (reader P.whole P.failures archive.old archive.new) prefix.now in
+        (reader P.whole P.failures archive.old archive.new) uuid.now in
+        ReadsInputs result (λ rows. asked.Has rows.items) asked.Refuses asked.Unfailed }
+{
+    let uuids = [uuid_bytes(*uuid)];
+    let (part, _) = read_matching_part(&heap, 0, &uuids, index, archive)?;
+    Ok(rows_under(&heap, *uuid, &part)?)
+}
+
+/// All rows of an index.
+fn rows_listed_at<I: Placed, P: Placed>(
+    heap: Heap,
+    index: &mut I,
+    archive: &mut P,
+) -> Result<Vec<FindRow, Heap>, CommandFault>
+    ensures { let asked = rows_listed (reader I.whole I.failures index.old index.new)
+        (reader P.whole P.failures archive.old archive.new) in
         ReadsInputs result (λ rows. asked.Has rows.items) asked.Refuses asked.Unfailed }
 {
     let entries = read_first_index(&heap, index, archive)?;
-    Ok(rows_under(&heap, prefix, &entries)?)
+    Ok(rows_listed(&heap, &entries)?)
 }
 
 /// The rows under a UUID of the slices that the indexes of archives name there.
@@ -53,7 +69,9 @@ fn rows_joined<A: Archive + Drop, I: Placed, P: Placed>(
         (readers P.whole P.failures archives.old archives.new) uuid.now in
         ReadsInputs result (λ rows. asked.Has rows.items) asked.Refuses asked.Unfailed }
 {
-    let kept: A = read_archives_by_indexes(&heap, &[KeyPrefix::Uuid(*uuid)], indexes, archives)?;
+    let uuids = [uuid_bytes(*uuid)];
+    let sought = [KeyPrefix::Uuid(*uuid)];
+    let kept: A = read_archives_by_indexes(&heap, &uuids, &sought, indexes, archives)?;
     Ok(kept.find(uuid)?)
 }
 
@@ -71,7 +89,7 @@ fn find_by<A: Archive + Drop, I: Placed, P: Placed>(
 {
     if archives.len() == 1 {
         return match (indexes, archives) {
-            ([index], [archive]) => rows_at(heap, index, archive, &uuid_bytes(*uuid)),
+            ([index], [archive]) => rows_at(heap, index, archive, uuid),
             _ => unreachable!(),
         };
     }
@@ -86,12 +104,12 @@ fn list_first<I: Placed, P: Placed>(
 ) -> Result<Vec<FindRow, Heap>, CommandFault>
     requires index { 0 < length indexes.old }
     requires archive { 0 < length archives.old }
-    ensures { let asked = of_first_pair (λ index archive. rows_at index archive [])
+    ensures { let asked = of_first_pair (λ index archive. rows_listed index archive)
         (readers I.whole I.failures indexes.old indexes.new) (readers P.whole P.failures archives.old archives.new) in
         ReadsInputs result (λ rows. asked.Has rows.items) asked.Refuses asked.Unfailed }
 {
     match (indexes, archives) {
-        ([index, ..], [archive, ..]) => rows_at(heap, index, archive, &[]),
+        ([index, ..], [archive, ..]) => rows_listed_at(heap, index, archive),
         _ => unreachable!(),
     }
 }
@@ -141,7 +159,7 @@ impl<'a, I: Placed, P: Placed> Evidence for Indexes<'a, I, P> {
     ghost found = { λ old new uuid. rows_by (readers I.whole I.failures old.indexes.now new.indexes.now)
         (readers P.whole P.failures old.archives.now new.archives.now) uuid };
 
-    ghost listed = { λ old new. of_first_pair (λ index archive. rows_at index archive [])
+    ghost listed = { λ old new. of_first_pair (λ index archive. rows_listed index archive)
         (readers I.whole I.failures old.indexes.now new.indexes.now)
         (readers P.whole P.failures old.archives.now new.archives.now) };
 

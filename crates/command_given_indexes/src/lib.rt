@@ -12,9 +12,11 @@
 //!
 //! # Why it is so
 //!
-//! - All indexes are read, and compared with the lengths of their archives, before any slice is read.
-//! - With one archive, only the entries and the archive's length are read. A search of several archives reads the
-//!   slices of the UUID, since the rows of several archives are in the order of the bytes of their slices.
+//! - All indexes are read, and compared with the lengths of their archives, before any slice is read; the length of an
+//!   archive is compared again before its slices are read. Of an index a question reads the entries under the UUIDs
+//!   that it asks for, and the digests over their pages; `list` and `summary` read all entries.
+//! - With one archive, only entries and the archive's length are read. A search of several archives reads the slices of
+//!   the UUID, since the rows of several archives are in the order of the bytes of their slices.
 //! - `Stale` is reported for INDEX, not for the archive.
 #![tactic(auto)]
 

@@ -1,13 +1,14 @@
 //! The rows of an index.
 
-ghost use Rattle.std.specs.Prelude.{◌≡◌, ◌<◌, ◌≤◌, ◌^◌, All, IfOk, OnOk, filter, length, map, true};
+ghost use Rattle.std.specs.Prelude.{◌≡◌, ◌<◌, ◌≤◌, ◌^◌, IfOk, OnOk, [], length, map};
 ghost use Rattle.std.specs.List.{AllZip};
 ghost use Rattle.std.specs.List.Sorted.{IsPermutation, IsSortedBy, IsStableBy};
 ghost use Rattle.archive_core.specs.Key.{IsKey};
 ghost use Rattle.archive_core.specs.Part.{is_under};
-ghost use Rattle.index_format.specs.Entry.{has_tag, offset_in, placed_bytes};
+ghost use Rattle.index_format.specs.Entry.{offset_in, placed_bytes};
 ghost use Rattle.index_format.specs.Runs.{is_tagged};
-ghost use Rattle.index_format.specs.Text.{placed_of};
+ghost use Rattle.index_format.specs.Text.{placed_in, placed_of};
+ghost use Rattle.join_core.specs.Listing.{listing};
 ghost use Rattle.command_given_indexes.specs.Rows.{AreIndexRows, AreRowsAmong, IsEntryRow, has_lower_key};
 ghost use Rattle.command_given_indexes.specs.Rows.{stands_before};
 
@@ -15,7 +16,7 @@ use archive_core::{Digest, FindRow, FindState, SliceKey, compare_keys};
 use archive_records::{ADMISSION, RETIREMENT};
 use command_common::uuid_bytes;
 use heap_memory::{Heap, NoMemory};
-use index_format::{Index, IndexEntry, is_under, run_under};
+use index_format::{Index, IndexEntry, IndexPart};
 use uuid::Uuid;
 
 /// The row with these parts.
@@ -32,25 +33,6 @@ fn row_of(entry: &IndexEntry) -> FindRow
     ensures { IsEntryRow (placed_bytes entry.now) result }
 {
     row_with(entry.row.key, entry.row.digest, entry.row.state)
-}
-
-/// The entries under a prefix, in order.
-fn entries_under(
-    heap: Heap,
-    prefix: &[u8],
-    entries: &[IndexEntry],
-) -> Result<Vec<IndexEntry, Heap>, NoMemory>
-    ensures { IfOk result (λ picked. map placed_bytes picked.items
-        ≡ filter (is_under prefix.now) (map placed_bytes entries.now)) }
-{
-    let mut picked = Vec::new(heap);
-    'entries: for entry in entries {
-        if !is_under(prefix, entry) {
-            continue 'entries;
-        }
-        picked.push(*entry)?;
-    }
-    Ok(picked)
 }
 
 /// The offset of the record of an entry with this row.
@@ -98,20 +80,41 @@ fn put_by_key(rows: &mut Vec<FindRow, Heap>) -> Result<(), NoMemory>
     Ok(())
 }
 
-/// The rows of the entries of an index under a prefix, a UUID or the empty one: by key, and those of a key by the
-/// offsets of their records. Fails only if memory runs out.
-pub(crate) fn rows_under(
-    heap: &Heap,
-    prefix: &[u8],
-    index: &Index,
-) -> Result<Vec<FindRow, Heap>, NoMemory>
-    ensures { IfOk result (λ rows. AreIndexRows prefix.now (placed_of index.now) rows.items) }
+/// The rows of entries: by key, and those of a key by the offsets of their records.
+fn sorted_rows(heap: &Heap, entries: Vec<IndexEntry, Heap>) -> Result<Vec<FindRow, Heap>, NoMemory>
+    ensures { IfOk result (λ rows. AreIndexRows [] (map placed_bytes entries.items) rows.items) }
 {
-    let mut placed = entries_under(heap.share(), prefix, index.entries())?;
+    let mut placed = entries;
     sort_by_offset(&mut placed);
     let mut rows = rows_of(heap.share(), &placed)?;
     put_by_key(&mut rows)?;
     Ok(rows)
+}
+
+/// All rows of an index: by key, and those of a key by the offsets of their records. Fails only if memory runs out.
+pub(crate) fn rows_listed(heap: &Heap, index: &Index) -> Result<Vec<FindRow, Heap>, NoMemory>
+    ensures { IfOk result (λ rows. AreIndexRows [] (listing (placed_of index.now)) rows.items) }
+{
+    let mut placed = Vec::new(heap.share());
+    placed.extend_from_slice(index.entries())?;
+    sorted_rows(heap, placed)
+}
+
+/// The rows of the entries of an index under a UUID: by key, and those of a key by the offsets of their records. Fails
+/// only if memory runs out.
+pub(crate) fn rows_under(
+    heap: &Heap,
+    uuid: Uuid,
+    index: &IndexPart,
+) -> Result<Vec<FindRow, Heap>, NoMemory>
+    ensures { IfOk result (λ rows. AreIndexRows uuid (placed_in index.now) rows.items) }
+{
+    let _count = index.len();
+    let prefix = uuid_bytes(uuid);
+    let mut placed = Vec::new(heap.share());
+    placed.extend_from_slice(index.run_under(RETIREMENT, &prefix).1)?;
+    placed.extend_from_slice(index.run_under(ADMISSION, &prefix).1)?;
+    sorted_rows(heap, placed)
 }
 
 /// The rows of the entries with one tag under a prefix, found by binary search. No other entry is read.
@@ -119,15 +122,13 @@ fn rows_tagged(
     heap: Heap,
     tag: u8,
     prefix: &[u8],
-    index: &Index,
+    index: &IndexPart,
 ) -> Result<Vec<FindRow, Heap>, NoMemory>
-    requires { length prefix.now ≤ 24 }
-    ensures rows { IfOk result (λ rows. AreRowsAmong (is_tagged tag prefix.now) index.now rows.items) }
-    ensures tags { All (λ entry. has_tag entry ≡ true) index.now }
+    requires tag { 0 < tag }
+    requires prefix { length prefix.now ≤ 24 }
+    ensures { IfOk result (λ rows. AreRowsAmong (is_tagged tag prefix.now) index.now rows.items) }
 {
-    let entries = index.entries();
-    let (start, stop) = run_under(entries, tag, prefix);
-    rows_of(heap, &entries[start..stop])
+    rows_of(heap, index.run_under(tag, prefix).1)
 }
 
 /// The rows of the entries of an index under a UUID: of its retirements, and then of its admissions. They are found by
@@ -135,10 +136,11 @@ fn rows_tagged(
 pub fn rows_with_uuid(
     heap: &Heap,
     uuid: Uuid,
-    index: &Index,
+    index: &IndexPart,
 ) -> Result<Vec<FindRow, Heap>, NoMemory>
     ensures { IfOk result (λ rows. AreRowsAmong (is_under uuid) index.now rows.items) }
 {
+    let _count = index.len();
     let prefix = uuid_bytes(uuid);
     let mut rows = rows_tagged(heap.share(), RETIREMENT, &prefix, index)?;
     let mut admitted = rows_tagged(heap.share(), ADMISSION, &prefix, index)?;

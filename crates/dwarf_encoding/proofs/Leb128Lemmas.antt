@@ -22,12 +22,12 @@ onto_more bytes n high some within =
     ∙ ap (λ k. onto (get_or bytes (n - 1) 0) (onto_high_bits (drop k bytes) high)) back
 
 -- no byte of a number is its last
-goes_on : (last : ℕ → ℕ) (b : ℕ) (bs : List ℕ) → 128 ≤ b → leb128_at last (b ∷ bs) ≡ option_map (λ x. (onto b x.0, x.1)) (leb128_at last bs)
+pub goes_on : (last : ℕ → ℕ) (b : ℕ) (bs : List ℕ) → 128 ≤ b → leb128_at last (b ∷ bs) ≡ option_map (λ x. (onto b x.0, x.1)) (leb128_at last bs)
 unfolding leb128_at
 goes_on last b bs h = rw (le-ltb b 128 h) refl
 
 -- the last byte of a number
-ends : (last : ℕ → ℕ) (b : ℕ) (bs : List ℕ) → b < 128 → leb128_at last (b ∷ bs) ≡ Some (last b, bs)
+pub ends : (last : ℕ → ℕ) (b : ℕ) (bs : List ℕ) → b < 128 → leb128_at last (b ∷ bs) ≡ Some (last b, bs)
 unfolding leb128_at
 ends last b bs h = rw (lt-ltb b 128 h) refl
 

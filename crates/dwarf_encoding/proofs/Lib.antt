@@ -1,4 +1,5 @@
 mod Leb128Lemmas
+mod WrittenLemmas
 pub mod Texts
 pub mod SequenceLemmas
 pub mod ShorterLemmas

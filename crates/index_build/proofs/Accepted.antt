@@ -2,7 +2,7 @@
 use Rattle.std.proofs.Common.{◌≡◌, ℕ, ◌+◌, ◌<◌, ◌≤◌, ◌^◌, true, cond, ◌||◌, ◌&&◌, eqb, List, [], ◌∷◌, ◌++◌, length, drop, get_or, refl, sym, ap, ◌∙◌, subst}
 use Rattle.std.proofs.Common.{inl, inr, arith, length-append, nat_le}
 use Rattle.std.specs.Prelude.{Ok, Option}
-use Rattle.std.specs.Int.{w64, from_be_bytes, to_be_bytes}
+use Rattle.std.specs.Int.{w64, from_be_bytes}
 use Rattle.std.specs.List.{AllByRecursion, AllZip, concat, list_any}
 use Rattle.std.specs.List.Sorted.{IsPermutation, IsStrictlySortedBy}
 use Rattle.std.specs.Ordering.{is_lt, nat_cmp}
@@ -18,7 +18,7 @@ use Rattle.std.proofs.lemmas.Slice.Eq.{bytes_eq-Decides}
 use Rattle.sha2.proofs.Facts256.{length-sha256}
 use Rattle.join_core.specs.Listing.{ascending_of, listing}
 use Rattle.join_core.proofs.Listing.{listed}
-use Rattle.table_checked_pages.specs.Pages.{DigestsDecidePages, height, level_of, stored}
+use Rattle.table_checked_pages.specs.Pages.{DigestsDecidePages, height, level_of, root_of, stored}
 use Rattle.index_format.specs.Entry.{zeros, claim_at, claim_bytes, claim_in, has_claim, no_claim, stored_size}
 use Rattle.archive_core.specs.Content.{IsContent, Operations, is_admission}
 use Rattle.archive_core.specs.Record.{IsRecord}
@@ -32,19 +32,23 @@ use Rattle.index_format.specs.Entry.{has_kind, has_length, has_tag, length_in, p
 use Rattle.index_format.proofs.Placed.{entry_long, is_placed, tag_is}
 use Rattle.index_format.proofs.Sums.{AreApart as AreDistinct, any_ascending_of, is_same, listing_of, nonempty, text_length}
 use Rattle.index_build.specs.Content.{IsIndexOf, IsTableOf, claim_of, entries_of, table_entries, table_entry, tables_text, EndAlike, HasTable}
-use Rattle.index_format.specs.Text.{FollowOn, IsIndexText, PassChecks, end_of, check_entry}
+use Rattle.index_format.specs.Text.{FollowOn, IsIndexText, PassChecks, check_entry, end_of, entries_claim}
 use Rattle.index_format.proofs.Fields.{byte_kept, claim_read, long_with, number_kept}
 use Rattle.index_format.proofs.Checks.{long_entries}
-use Rattle.index_build.proofs.Contents.{apart, entry_length, entry_offset, moved, near_all, claim_admitted, claim_retired, stored_long}
+use Rattle.index_build.proofs.Contents.{apart, archive_long, claim_admitted, claim_retired, entry_length, entry_offset, moved, near_all, stored_long}
+use Rattle.index_build.specs.Making.{AreNear}
 use Rattle.index_format.proofs.Ascending.{along_list}
-use Rattle.sha2.specs.Sha256.{sha256}
 use Rattle.table_symbols.specs.Found.{IsSaid}
 use Rattle.table_symbols.specs.Steps.{AreBytes}
 use Rattle.table_symbols.specs.declared.nearest.NearestSymbol.{NearestSymbol}
 use Rattle.table_source_frames.proofs.SliceTables.{table_of_symbols}
 use Rattle.archive_core.proofs.Records.{same_parts}
 use Rattle.index_build.specs.Asked.{IsToldBy}
-use Rattle.index_format.proofs.IndexTexts.{last_is}
+use Rattle.index_format.proofs.IndexTexts.{after_length, front_passed, last_is}
+use Rattle.index_format.proofs.Faults.{digest_there}
+use Rattle.index_format.proofs.MayHave.{may_alike, may_have}
+use Rattle.index_format.specs.Paged.{only}
+use Rattle.index_format.specs.Tree.{AreReadUnder, is_under_one}
 
 -- ---- the claim of a table
 
@@ -215,15 +219,17 @@ accepted o text index content short fits =
     let es : List (List ℕ) = table_entries 8 8 rs ts in
     let entries : List (List ℕ) = listing (set.from_list {R = order} es) in
     let ordered : InOrder Archive [] rs = InOrder-listing o content in
-    let long : length text ≡ 8 + (length tables + (length (concat entries) + length (end_of entries))) =
-    ap length index.text_is ∙ length-append index_magic (tables ++ (concat entries ++ end_of entries))
-    ∙ ap (λ (n : ℕ). 8 + n) (length-append tables (concat entries ++ end_of entries)
-    ∙ ap (λ (n : ℕ). length tables + n) (length-append (concat entries) (end_of entries))) in
+    let all : List ℕ = stored (concat entries) in
+    let long : length text ≡ 8 + (length tables + (length all + length (end_of entries))) =
+    ap length index.text_is ∙ length-append index_magic (tables ++ (all ++ end_of entries))
+    ∙ ap (λ (n : ℕ). 8 + n) (length-append tables (all ++ end_of entries)
+    ∙ ap (λ (n : ℕ). length tables + n) (length-append all (end_of entries))) in
     let room : 8 + length tables < 2 ^ 64 = omega (arith, long, fits) in
     let of : 8 + length (concat rs) < 2 ^ 64 = omega (arith, text_length o, short) in
     let sound : AllByRecursion (IsSound end) es = sound_entries [] 8 8 end rs ts ordered index.each of room (omega arith) in
     let follow : FollowOn 8 8 end es = follow_entries [] 8 8 rs ts ordered index.each of room in
-    let distinct : AreDistinct es = apart [] 8 8 rs ts ordered (near_all 8 8 rs ts of room) in
+    let near : AreNear 8 8 rs ts = near_all 8 8 rs ts of room in
+    let distinct : AreDistinct es = apart [] 8 8 rs ts ordered near in
     let each : AllByRecursion (IsSound end) entries = along (IsSound end) entries (λ q h.
     All-contains (IsSound end) es q (All-from_recursion (IsSound end) es sound)
     (containing es q (sym (any_ascending_of q es) ∙ ap (λ (xs : List (List ℕ)). list_any (is_same q) xs)
@@ -234,7 +240,8 @@ accepted o text index content short fits =
     record {
       tables = tables;
       whole = index.text_is;
-      few = omega (arith, long, fits, long_entries end [] entries pass);
+      few = omega (arith, long, fits, stored_long (concat entries), long_entries end [] entries pass);
+      short = omega (arith, archive_long rs ts ordered near index.each, text_length o, short);
       pass = pass;
       laid = record {
         order = es;
@@ -258,21 +265,16 @@ same_list (x ∷ xs) (y ∷ ys) a b e =
     let parts = same_parts x y (concat xs) (concat ys) (a.0 ∙ sym b.0) e in
     cc (parts.0, same_list xs ys a.1 b.1 parts.1)
 
--- the digest in an end record
-end_digest : (entries : List (List ℕ)) → drop 9 (end_of entries) ≡ sha256 (concat entries)
-unfolding end_of
-end_digest entries = drop_at (to_be_bytes w64 (length entries)) (sha256 (concat entries)) 8 refl
-
 pub of_the_content : (o : Operations) (index text : List ℕ) (entries : List (List ℕ)) (is : IsIndexOf o index)
     → IsContent o → length (written o) < 2 ^ 64 → length index < 2 ^ 64 → IsIndexText text entries → EndAlike text index
-    → (sha256 (concat entries) ≡ sha256 (concat (entries_of (listing o) is.tables)) → concat entries
+    → (root_of (concat entries) ≡ root_of (concat (entries_of (listing o) is.tables)) → concat entries
     ≡ concat (entries_of (listing o) is.tables)) → entries ≡ entries_of (listing o) is.tables
 of_the_content o index text entries is content short fits read alike tell =
     let others : List (List ℕ) = entries_of (listing o) is.tables in
     let made : IsIndexText index others = accepted o index is content short fits in
     let ends : end_of entries ≡ end_of others = sym (last_is text entries read) ∙ alike ∙ last_is index others made in
-    let digests : sha256 (concat entries) ≡ sha256 (concat others) = sym (end_digest entries) ∙ ap (drop 9) ends ∙ end_digest others in
-    same_list entries others (long_each (8 + length read.tables) [] entries read.pass) (long_each (8 + length made.tables) [] others made.pass) (tell digests)
+    let roots : root_of (concat entries) ≡ root_of (concat others) = sym (after_length entries) ∙ ap (drop 25) ends ∙ after_length others in
+    same_list entries others (long_each (8 + length read.tables) [] entries read.pass) (long_each (8 + length made.tables) [] others made.pass) (tell roots)
 
 pub told_over : (index text r : List ℕ) (entries : List (List ℕ)) (address : ℕ) (found : Option NearestSymbol)
     (table : HasTable index entries r) → DigestsDecidePages text (claim_in table.e) table.table → AreBytes (drop 33 r)
@@ -280,3 +282,13 @@ pub told_over : (index text r : List ℕ) (entries : List (List ℕ)) (address :
 told_over index text r entries address found table tell bytes says =
     says (drop 33 r) table.table bytes (table_of_symbols (drop 33 r) table.table table.is_table)
     (record { size = table.stored.size; root = table.stored.root; tells = tell })
+
+pub over_any_bytes : (o : Operations) (index text : List ℕ) (uuids some : List (List ℕ)) (is : IsIndexOf o index)
+    → IsContent o → length (written o) < 2 ^ 64 → length index < 2 ^ 64 → length text ≡ length index → EndAlike text index
+    → DigestsDecidePages text (entries_claim text) (concat (entries_of (listing o) is.tables)) → AreReadUnder uuids text some
+    → some ≡ only (is_under_one uuids) (entries_of (listing o) is.tables)
+over_any_bytes o index text uuids some is content short fits same alike tells read =
+    let entries : List (List ℕ) = entries_of (listing o) is.tables in
+    let made : IsIndexText index entries = accepted o index is content short fits in
+    let room : 57 ≤ length text = omega (arith, same, (front_passed index (digest_there index entries made).ends.beginning).1) in
+    read entries (may_alike text index same room alike entries (may_have index entries made) tells)

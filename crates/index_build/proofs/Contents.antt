@@ -2,11 +2,13 @@
 use Rattle.std.proofs.Common.{◌≡◌, ℕ, ◌+◌, ◌<◌, ◌^◌, true, false, ◌||◌, List, [], ◌∷◌, ◌++◌, length, refl, sym, ap, ◌∙◌, arith, length-append, zero, suc}
 use Rattle.std.proofs.Common.{cond, take, drop, get_or, subst, inl, inr, append_assoc}
 use Rattle.std.specs.Int.{from_be_bytes, to_be_bytes, w64}
-use Rattle.std.specs.List.{All, AllZip, concat, list_any, Contains}
+use Rattle.std.specs.List.{All, AllZip, concat, list_any, Contains, sum_by}
 use Rattle.std.specs.List.Sorted.{IsPermutation}
 use Rattle.std.specs.Ordering.{is_eq, match_ordering}
 use Rattle.std.specs.declared.cmp.Ordering.TheVariants.{Less, Equal, Greater}
-use Rattle.std.proofs.lemmas.List.Sorted.{IsPermutation-cons, IsPermutation-middle, IsPermutation-refl, IsPermutation-trans, length_permutation}
+use Rattle.std.proofs.lemmas.List.Sorted.{IsPermutation-cons, IsPermutation-middle, IsPermutation-refl, IsPermutation-trans}
+use Rattle.std.proofs.lemmas.List.Sorted.{length_permutation, sum_by-IsPermutation}
+use Rattle.std.proofs.lemmas.List.Sums.{sum_by-cons}
 use Rattle.join_core.specs.Listing.{ascending_of, put, listing}
 use Rattle.table_checked_pages.specs.Pages.{stored, AreStored, digests_size}
 use Rattle.archive_core.specs.Key.{key_bytes}
@@ -42,7 +44,7 @@ use Rattle.archive_core.specs.Summary.{entry}
 use Rattle.index_format.specs.Text.{index_magic}
 use Rattle.index_build.specs.Asked.{IsToldBy}
 use Rattle.index_format.specs.Entry.{claim_at, claim_bytes, claim_in, no_claim}
-use Rattle.index_format.specs.Text.{end_of, index_text}
+use Rattle.index_format.specs.Text.{archive_length, end_of, index_text}
 
 -- ---- records and tables that begin below 2^64
 
@@ -133,6 +135,36 @@ unfolding entries_of
 as_many rs ts ordered near each =
     let es : List (List ℕ) = table_entries 8 8 rs ts in
     ap length (listing_of es) ∙ length_permutation es (ascending_of order es) (moved es (apart [] 8 8 rs ts ordered near)) ∙ length-table_entries 8 8 rs ts each
+
+-- the lengths in the entries are those of the records
+lengths_are : (low : List ℕ) (offset at : ℕ) (rs ts : List (List ℕ)) → InOrder Archive low rs → AllZip IsTableOf rs ts
+    → sum_by length_in (table_entries offset at rs ts) ≡ length (concat rs)
+lengths_are low offset at [] ts a each = refl
+lengths_are low offset at (r ∷ rs) [] a each = absurd each
+lengths_are low offset at (r ∷ rs) (t ∷ ts) a each =
+    let next : List (List ℕ) = table_entries (offset + length r) (at + length (stored t)) rs ts in
+    omega (
+      arith,
+      sum_by-cons length_in (table_entry offset at r t) next,
+      entry_length offset at r t a.0,
+      length-append r (concat rs),
+      lengths_are r (offset + length r) (at + length (stored t)) rs ts a.2 each.1,
+    )
+
+-- the length of the archive, by the entries and by the records
+pub archive_long : (rs ts : List (List ℕ)) → InOrder Archive [] rs → AreNear 8 8 rs ts → AllZip IsTableOf rs ts
+    → archive_length (entries_of rs ts) ≡ 17 + length (concat rs)
+unfolding entries_of
+archive_long rs ts ordered near each =
+    let es : List (List ℕ) = table_entries 8 8 rs ts in
+    let listed : sum_by length_in (listing (set.from_list {R = order} es)) ≡ sum_by length_in (ascending_of order es) =
+    ap (λ (xs : List (List ℕ)). sum_by length_in xs) (listing_of es) in
+    omega (
+      arith,
+      listed,
+      sum_by-IsPermutation length_in es (ascending_of order es) (moved es (apart [] 8 8 rs ts ordered near)),
+      lengths_are [] 8 8 rs ts ordered each,
+    )
 
 -- ---- a content has one index
 
@@ -250,7 +282,7 @@ module _ (o : Operations) (text : List ℕ) (index : IsIndexOf o text) (i : ℕ)
   stored_at : AreStored text (claim_at at t) t
   stored_at =
       let ts : List (List ℕ) = index.tables in
-      let rest : List ℕ = concat (entries_of (listing o) ts) ++ end_of (entries_of (listing o) ts) in
+      let rest : List ℕ = stored (concat (entries_of (listing o) ts)) ++ end_of (entries_of (listing o) ts) in
       let lt : i < length ts = omega (arith, AllZip-long IsTableOf (listing o) ts index.each, within) in
       let split : ts ≡ take i ts ++ (t ∷ drop (suc i) ts) = sym (take-append-drop i ts) ∙ ap (λ (us : List (List ℕ)). take i ts ++ us) (drop-cons ts i [] lt) in
       subst (λ (x : List ℕ). AreStored x (claim_at at t) t)

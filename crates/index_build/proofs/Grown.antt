@@ -9,7 +9,7 @@ use Rattle.std.proofs.lemmas.List.Concat.{flat_map-append}
 use Rattle.std.proofs.lemmas.List.Elements.{All-nil, All-push, AllZip-push}
 use Rattle.byte_device.specs.Writes.{IsPut, StopsPut}
 use Rattle.byte_device.proofs.Gains.{puts_then}
-use Rattle.byte_device.proofs.Known.{Consumes-then, Appends-none, Appends-then}
+use Rattle.byte_device.proofs.Known.{Appends-none, Appends-then, Consumes-none, Consumes-then}
 use Rattle.table_checked_pages.specs.Pages.{stored}
 use Rattle.table_symbols.specs.Steps.{AreBytes}
 use Rattle.archive_records.specs.Kind.{magic}
@@ -17,7 +17,7 @@ use Rattle.archive_records.specs.Reader.{Finishes, HasRead, Passes, Position, St
 use Rattle.archive_records.specs.Text.{text_of}
 use Rattle.archive_records.specs.declared.fault.RecordFault.{RecordFault}
 use Rattle.archive_records.specs.declared.format.Format.TheVariants.{Archive}
-use Rattle.archive_records.proofs.RecordSteps.{HasRead-grows, HasReadAll-grows, Stopped-fails, Stopped-unkept}
+use Rattle.archive_records.proofs.RecordSteps.{HasRead-grows, HasReadAll-grows, Stopped-end, Stopped-fails, Stopped-unkept}
 use Rattle.index_format.specs.Text.{index_magic}
 use Rattle.index_build.specs.Content.{IsTableOf, front_of, table_entries, table_entry, tables_text}
 use Rattle.index_format.specs.Entry.{entry_bytes}
@@ -210,6 +210,25 @@ pub refused_where : {W : Type 0} (a c : Option (List ℕ)) (held : W → Option 
     → HasStoppedMaking a c held failures old new (Refused (Archive_fault fault))
 refused_where a c held failures old new records tables done fault stopped each put =
     (inr (Archive, refl, records, stopped), put.unfailed, (done, inr (begun_where a c held failures old new records tables done fault stopped each put)))
+
+-- memory ran out after all records
+pub memory_stopped : {W : Type 0} (a b : Option (List ℕ)) (held : W → Option (List ℕ)) (failures : W → ℕ) (old new : W)
+    (entries : List IndexEntry) (position : Position) (done : ℕ)
+    → HasPutAll a b held failures old new entries position done
+    → HasStoppedMaking a b held failures old new (Refused (Archive_fault (record { kind = OutOfMemory; offset = position.offset })))
+memory_stopped a b held failures old new entries position done h =
+    let s = Stopped-end Archive refl a b b h.records position h.read (Consumes-none b) in
+    refused_where a b held failures old new h.records h.tables done (record { kind = OutOfMemory; offset = position.offset })
+    (record {
+      rest = s.rest;
+      taken = s.taken;
+      ordered = s.ordered;
+      apart = s.apart;
+      few = s.few;
+      unended = λ known. absurd (known.1 refl);
+      stops = inl (h.read.offset_is, λ known. absurd (known refl));
+      undecided = λ machine. s.undecided (inl refl);
+    }) h.tabled.each h.put
 
 module _ {W : Type 0} (a b c : Option (List ℕ)) (held : W → Option (List ℕ)) (failures : W → ℕ) (old mid new : W)
     (entries : List IndexEntry) (before after : Position) (done : ℕ)

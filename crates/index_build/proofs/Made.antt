@@ -1,6 +1,6 @@
 -- What was written so far is a beginning of the index of the content whose text the input is; and the index that was made.
-use Rattle.std.proofs.Common.{◌≡◌, ℕ, ◌<◌, ◌≤◌, List, [], ◌∷◌, ◌++◌, length, take, Option, Some, None, refl, sym, ap, ◌∙◌, ◌⊎◌, ◌^◌, subst, inl, inr, arith}
-use Rattle.std.proofs.Common.{append_assoc, length-append, map, Err, Ok}
+use Rattle.std.proofs.Common.{◌≡◌, ℕ, ◌+◌, ◌<◌, ◌≤◌, List, [], ◌∷◌, ◌++◌, length, take, Option, Some, None, refl, sym, ap, ◌∙◌, ◌⊎◌}
+use Rattle.std.proofs.Common.{◌^◌, subst, inl, inr, arith, append_assoc, length-append, map, Err, Ok}
 use Rattle.std.specs.List.{All, AllZip, concat}
 use Rattle.std.specs.Io.KnownBytes.{Appends, Consumes, IsAtEnd}
 use Rattle.std.proofs.lemmas.List.{append-nil, take-append-le, length-take-le}
@@ -20,8 +20,8 @@ use Rattle.archive_records.proofs.Longest.{behind_magic, end-stops, longest}
 use Rattle.index_format.specs.Text.{index_magic}
 use Rattle.index_build.specs.Content.{IsIndexOf, IsTableOf, entries_of, front_of, tables_text}
 use Rattle.index_build.specs.Making.{IsBegun, IsTooFar, AreNear, IsMade, IsRefused, IsStopped, Makes, RefusesToMake}
-use Rattle.index_format.specs.Text.{end_of, index_text}
-use Rattle.index_build.proofs.Contents.{HaveOneTable, same_table, as_many, one_of_content, slices_are_bytes}
+use Rattle.index_format.specs.Text.{archive_length, end_of, index_text}
+use Rattle.index_build.proofs.Contents.{HaveOneTable, archive_long, as_many, one_of_content, same_table, slices_are_bytes}
 use Rattle.index_format.proofs.IndexTexts.{end_long}
 use Rattle.std.specs.Prelude.{IfSome}
 use Rattle.std.specs.FinSet as set
@@ -85,7 +85,7 @@ front_begins : HaveOneTable → (o : Operations) (index : List ℕ) (records tab
 front_begins once o index records tables more is begins each =
     let all = tables_begin once records more is.tables tables (subst (λ (rs : List (List ℕ)). AllZip IsTableOf rs is.tables) begins is.each) each in
     let entries : List (List ℕ) = entries_of (listing o) is.tables in
-    let behind : List ℕ = concat entries ++ end_of entries in
+    let behind : List ℕ = stored (concat entries) ++ end_of entries in
     let text : tables_text is.tables ≡ tables_text tables ++ tables_text all.0 = ap tables_text all.1 ∙ flat_map-append stored tables all.0 in
     record {
       more = tables_text all.0 ++ behind;
@@ -93,7 +93,7 @@ front_begins once o index records tables more is begins each =
           ∙ ap (λ (t : List ℕ). index_magic ++ (t ++ behind)) text
           ∙ ap (λ (t : List ℕ). index_magic ++ t) (append_assoc (tables_text tables) (tables_text all.0) behind)
           ∙ sym (append_assoc index_magic (tables_text tables) (tables_text all.0 ++ behind));
-      some = omega (arith, length-append (tables_text all.0) behind, length-append (concat entries) (end_of entries), end_long entries);
+      some = omega (arith, length-append (tables_text all.0) behind, length-append (stored (concat entries)) (end_of entries), end_long entries);
     }
 
 -- what was begun
@@ -219,7 +219,7 @@ module _ {R W : Type 0} (once : HaveOneTable) (left : R → Option (List ℕ)) (
     items = entries_of all.records all.tables
 
     abbrev behind : List ℕ
-    behind = concat items ++ end_of items
+    behind = stored (concat items) ++ end_of items
 
     abbrev index : List ℕ
     index = index_text (tables_text all.tables) items
@@ -259,21 +259,28 @@ module _ {R W : Type 0} (once : HaveOneTable) (left : R → Option (List ℕ)) (
       text_is = ap (λ (rs : List (List ℕ)). index_text (tables_text all.tables) (entries_of rs all.tables)) (sym listed);
     }
 
-    index_is : front_of all.tables ++ (concat (map entry_bytes sorted) ++ end_of (map entry_bytes sorted)) ≡ index
-    index_is = ap (λ (es : List (List ℕ)). front_of all.tables ++ (concat es ++ end_of es)) items_are ∙ append_assoc index_magic (tables_text all.tables) behind
+    index_is : front_of all.tables ++ (stored (concat (map entry_bytes sorted)) ++ end_of (map entry_bytes sorted)) ≡ index
+    index_is = ap (λ (es : List (List ℕ)). front_of all.tables ++ (stored (concat es) ++ end_of es)) items_are
+        ∙ append_assoc index_magic (tables_text all.tables) behind
 
     records_are : length sorted ≡ set.len content
     records_are =
         sym (length-map sorted entry_bytes) ∙ ap length items_are ∙ as_many all.records all.tables all.read.ordered all.tabled.near all.tabled.each
         ∙ sym (ap length listed) ∙ length_written content
 
+    -- the end record was read at the offset of the last position
+    pub long_is : archive_length (map entry_bytes sorted) ≡ position.offset + 9
+    long_is =
+        let long = archive_long all.records all.tables all.read.ordered all.tabled.near all.tabled.each in
+        ap (λ (es : List (List ℕ)). archive_length es) items_are ∙ omega (arith, long, all.read.offset_is)
+
     pub made : (sizes : Sizes) → IsPut held writes mid end done
-        (concat (map entry_bytes sorted) ++ end_of (map entry_bytes sorted)) sizes.bytes → sizes.records ≡ length sorted
+        (stored (concat (map entry_bytes sorted)) ++ end_of (map entry_bytes sorted)) sizes.bytes → sizes.records ≡ length sorted
         → IsMade (stream left failures old new) (stream held writes start end) sizes
     made sizes put count =
         let puts = subst (λ (t : List ℕ). IsPut held writes start end 0 t sizes.bytes) index_is
         (puts_then held writes (λ (s : Sizes). s.bytes) start mid end 0 done (front_of all.tables)
-        (concat (map entry_bytes sorted) ++ end_of (map entry_bytes sorted)) (Ok sizes) all.put put) in
+        (stored (concat (map entry_bytes sorted)) ++ end_of (map entry_bytes sorted)) (Ok sizes) all.put put) in
         record {
           content = content;
           whole = whole;
@@ -294,12 +301,12 @@ module _ {R W : Type 0} (once : HaveOneTable) (left : R → Option (List ℕ)) (
 
     -- the writer failed in the entries
     pub stopped_behind : (fault : WriteFault) → StopsPut held writes mid end done
-        (concat (map entry_bytes sorted) ++ end_of (map entry_bytes sorted)) fault.written
+        (stored (concat (map entry_bytes sorted)) ++ end_of (map entry_bytes sorted)) fault.written
         → IsStopped (stream left failures old new) (stream held writes start end) fault
     stopped_behind fault stops =
         let puts = subst (λ (t : List ℕ). StopsPut held writes start end 0 t fault.written) index_is
         (puts_then held writes (λ (s : Sizes). s.bytes) start mid end 0 done (front_of all.tables)
-        (concat (map entry_bytes sorted) ++ end_of (map entry_bytes sorted)) (Err fault) all.put stops) in
+        (stored (concat (map entry_bytes sorted)) ++ end_of (map entry_bytes sorted)) (Err fault) all.put stops) in
         let count : puts.some ≡ fault.written = omega (arith, puts.written_is) in
         let first : WritesFirst (held start) (held end) index fault.written = subst (WritesFirst (held start) (held end) index) count puts.first in
         record {

@@ -5,7 +5,7 @@ use Rattle.index_format.specs.declared.fault.IndexingFault.{IndexingFault}
 use Rattle.index_build.specs.Making.{Makes}
 use Rattle.index_build.specs.declared.fault.MakingFault.{MakingFault}
 use Rattle.index_build.specs.declared.fault.MakingFault.TheVariants.{Archive as Refused, Write as Wrote}
-use Rattle.index_build.proofs.Made.{gained_bytes, stopped}
+use Rattle.index_build.proofs.Made.{gained_bytes}
 use Rattle.command_common.specs.Ends.{HasTaken}
 use Rattle.command_common.specs.Inputs.{reader}
 use Rattle.command_common.specs.Outputs.{writer}

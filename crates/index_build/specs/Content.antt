@@ -69,4 +69,4 @@ pub record HasTable (text : List ℕ) (entries : List (List ℕ)) (r : List ℕ)
 
 -- two texts end with the same end record
 abbrev pub EndAlike : List ℕ → List ℕ → Type 0
-EndAlike text other = drop (length text - 41) text ≡ drop (length other - 41) other
+EndAlike text other = drop (length text - 57) text ≡ drop (length other - 57) other

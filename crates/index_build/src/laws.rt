@@ -3,10 +3,9 @@
 
 ghost use Rattle.std.specs.Prelude.{◌≡◌, ◌<◌, ◌^◌, ℕ, List, Option, Some, drop, length, true};
 ghost use Rattle.std.specs.List.{concat};
-ghost use Rattle.sha2.specs.Sha256.{sha256};
 ghost use Rattle.std.specs.FinSet as set;
 ghost use Rattle.join_core.specs.Listing.{listing};
-ghost use Rattle.table_checked_pages.specs.Pages.{AreStored, DigestsDecidePages};
+ghost use Rattle.table_checked_pages.specs.Pages.{AreStored, DigestsDecidePages, root_of};
 ghost use Rattle.table_symbols.specs.Found.{IsSaid};
 ghost use Rattle.table_symbols.specs.Steps.{AreBytes};
 ghost use Rattle.table_symbols.specs.Table.{IsTableText};
@@ -17,7 +16,9 @@ ghost use Rattle.index_build.specs.Asked.{IsToldBy};
 ghost use Rattle.index_build.specs.Content.{EndAlike, HasTable, IsIndexOf, entries_of};
 ghost use Rattle.index_build.specs.Making.{IsTooFar};
 ghost use Rattle.index_format.specs.Entry.{claim_in};
-ghost use Rattle.index_format.specs.Text.{IsIndexText};
+ghost use Rattle.index_format.specs.Paged.{only};
+ghost use Rattle.index_format.specs.Text.{IsIndexText, entries_claim};
+ghost use Rattle.index_format.specs.Tree.{AreReadUnder, is_under_one};
 
 use table_source_frames::laws::one_slice_table;
 
@@ -57,15 +58,27 @@ pub fn index_answers_right()
         → IsToldBy text e address found → IsSaid slice address found }
 {}
 
+/// Of any bytes with the length and the end record of the index of a content, the entries that are read under some
+/// UUIDs are those of that content, unless other bytes at the offset of a page of the entries, or of their digests, have
+/// the digest of that page.
+pub fn entries_over_any_bytes()
+    ensures { (o : Operations) (index text : List ℕ) (uuids some : List (List ℕ)) → (is : IsIndexOf o index)
+        → IsContent o → length (written o) < 2 ^ 64 → length index < 2 ^ 64 → length text ≡ length index
+        → EndAlike text index
+        → (let entries = entries_of (listing o) is.tables in
+        DigestsDecidePages text (entries_claim text) (concat entries) → AreReadUnder uuids text some
+        → some ≡ only (is_under_one uuids) entries) }
+{}
+
 /// In any bytes that end with the end record of the index of a content, the entries that are read are those of that
-/// content, unless others have their SHA-256; and the answer of such an entry for an address is the nearest symbol of
+/// content, unless others have their root; and the answer of such an entry for an address is the nearest symbol of
 /// its slice, unless other bytes at the offset of a page of the table, or of its digests, have the digest of that page.
 pub fn answers_are_of_the_content()
     ensures entries { (o : Operations) (index text : List ℕ) (entries : List (List ℕ)) → (is : IsIndexOf o index)
         → IsContent o → length (written o) < 2 ^ 64 → length index < 2 ^ 64 → IsIndexText text entries
         → EndAlike text index
         → (let others = entries_of (listing o) is.tables in
-        (sha256 (concat entries) ≡ sha256 (concat others) → concat entries ≡ concat others) → entries ≡ others) }
+        (root_of (concat entries) ≡ root_of (concat others) → concat entries ≡ concat others) → entries ≡ others) }
     ensures told { (index text r : List ℕ) (entries : List (List ℕ)) (address : ℕ) (found : Option NearestSymbol)
         → (table : HasTable index entries r) → DigestsDecidePages text (claim_in table.e) table.table
         → AreBytes (drop 33 r) → IsToldBy text table.e address found → IsSaid (drop 33 r) address found }

@@ -1,6 +1,6 @@
 //! The tables of all records of an archive, one after another.
 
-ghost use Rattle.std.specs.Prelude.{◌≡◌, ◌<◌, ◌^◌, ℕ, List, Option, [], IfErr, IfOk, OnOk};
+ghost use Rattle.std.specs.Prelude.{◌≡◌, ◌<◌, ◌^◌, ℕ, List, Option, [], IfErr, IfOk, OnOk, length};
 ghost use Rattle.byte_device.specs.Writes.{IsPut};
 ghost use Rattle.table_checked_pages.specs.Pages.{stored};
 ghost use Rattle.table_symbols.specs.Steps.{AreBytes};
@@ -21,7 +21,7 @@ use heap_memory::Heap;
 use index_format::{IndexEntry, IndexingFault};
 
 /// The fault of the archive, as one of making.
-fn refused(fault: RecordFault) -> MakingFault
+pub(crate) fn refused(fault: RecordFault) -> MakingFault
     ensures { result ≡ Refused (Archive_fault fault) }
 {
     MakingFault::Archive(IndexingFault::Archive(fault))
@@ -39,6 +39,7 @@ fn put_record<W: Sink>(
     requires { IsRecord reader.now.last }
     ensures near { OnOk result ((before < 2 ^ 64) × (done < 2 ^ 64)) }
     ensures bytes { OnOk result (AreBytes reader.now.last) }
+    ensures long { OnOk result (length reader.now.last < 2 ^ 64) }
     ensures short { IfOk result (λ put. put.1 < 2 ^ 80) }
     ensures put { IfOk result (λ put. (table : List ℕ) × IsTableOf reader.now.last table
         × (entry_bytes put.0 ≡ table_entry before done reader.now.last table)
@@ -72,6 +73,7 @@ pub(crate) fn put_tables<R: Source, W: Sink>(
 ) -> Result<(Vec<IndexEntry, Heap>, u128), MakingFault>
     requires file { reader.old.file ≡ Archive }
     requires fits { done < 2 ^ 80 }
+    requires near { reader.old.offset < 2 ^ 65 }
     ensures all { IfOk result (λ put. (a : Option (List ℕ)) (first : W)
         → HasRead Archive a (R.left r.old) [] reader.old → IsPut W.held W.failures first w.old 0 (front_of []) done
         → HasPutAll a (R.left r.new) W.held W.failures first w.new put.0.items reader.new put.1) }
@@ -81,6 +83,7 @@ pub(crate) fn put_tables<R: Source, W: Sink>(
     ensures unfailed { OnOk result (R.failures r.new ≡ R.failures r.old) }
     ensures blames { IfErr result (BlamesMaking R.left R.failures r.old r.new) }
     ensures short { IfOk result (λ put. put.1 < 2 ^ 80) }
+    ensures near { OnOk result (reader.new.offset < 2 ^ 65) }
 {
     let mut entries = Vec::new(heap.share());
     let mut done = done;

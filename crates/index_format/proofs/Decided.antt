@@ -3,7 +3,7 @@ use Rattle.std.proofs.Common.{◌≡◌, ℕ, ◌+◌, ◌-◌, ◌*◌, ◌<◌
 use Rattle.std.proofs.Common.{length, take, drop, get_or, refl, sym, ap, ◌∙◌, subst, inl, inr, arith, append_assoc}
 use Rattle.std.proofs.Common.{length-drop}
 use Rattle.std.specs.Prelude.{◌⊎◌, Result, Ok, Err}
-use Rattle.std.specs.Int.{w64, from_be_bytes}
+use Rattle.std.specs.Int.{w64, from_be_bytes, to_be_bytes}
 use Rattle.std.specs.List.{concat, insert}
 use Rattle.std.specs.List.Sorted.{IsNonDecreasingBy, IsPermutation}
 use Rattle.std.specs.Str.{bytes_eq}
@@ -14,37 +14,41 @@ use Rattle.std.proofs.lemmas.List.Sorted.{IsPermutation-cons, IsPermutation-inse
 use Rattle.std.proofs.lemmas.List.Sorted.{IsPermutation-trans}
 use Rattle.std.proofs.lemmas.Nat.{be_bytes_8}
 use Rattle.std.proofs.lemmas.Slice.Eq.{bytes_eq-Decides}
-use Rattle.sha2.specs.Sha256.{sha256}
+use Rattle.table_checked_pages.specs.Pages.{AreStored, Claim, digests_size, root_of, stored}
+use Rattle.table_checked_pages.proofs.PageLemmas.{length-stored}
 use Rattle.archive_core.specs.Content.{is_admission}
 use Rattle.archive_records.specs.Text.{last_of}
 use Rattle.archive_records.proofs.Forms.{IsBytes, IsBytes-drop, IsBytes-take}
 use Rattle.index_format.specs.Entry.{length_in, offset_in}
 use Rattle.index_format.specs.Entry.{claim_in, stored_size}
 use Rattle.index_format.specs.Fault.{HasDigest, HasEnds, IsIndexFault, beginning_offset, check_end, check_beginning}
-use Rattle.index_format.specs.InnerReading.{AreEndsOf}
-use Rattle.index_format.specs.Text.{AreLaid, FollowOn, IsIndexText, PassChecks, count_in, digest_in, entries_in, start_in, check_entry}
+use Rattle.index_format.specs.InnerReading.{AreEndsOf, end_bytes}
+use Rattle.index_format.specs.Text.{AreLaid, FollowOn, HasNumbers, IsIndexText, PassChecks, archive_length, archive_length_in, check_entry}
+use Rattle.index_format.specs.Text.{count_in, entries_claim, entries_in, first_in, retired_in, retirements_in, root_in, start_in}
 use Rattle.index_format.specs.declared.ends.Ends.{Ends}
 use Rattle.index_format.specs.declared.index_fault.IndexFault.{IndexFault}
 use Rattle.index_format.specs.declared.index_fault.IndexFaultKind.{IndexFaultKind}
 use Rattle.index_format.specs.declared.index_fault.IndexFaultKind.TheVariants.{BadDigest, BadPlace}
 use Rattle.index_format.proofs.PlaceLemmas.{follow_sorted}
 use Rattle.index_format.proofs.Checks.{long_entries}
-use Rattle.index_format.proofs.IndexTexts.{front_passed, length_entries, tables_long, whole_text}
+use Rattle.index_format.proofs.EndLemmas.{number_at, part_at, parts_of_end, tag_at}
+use Rattle.index_format.proofs.IndexTexts.{end_passed, first_after, first_fills, front_passed, length_entries, tables_long, whole_text}
 
 -- ---- the text of entries that were read
 
 pub index_of : (text : List ℕ) (ends : Ends) (entries : List (List ℕ)) → AreEndsOf text ends → ends.count < 2 ^ 64
-    → HasDigest text → concat entries ≡ entries_in text → PassChecks (start_in text) [] entries
-    → AreLaid (start_in text) entries → IsIndexText text entries
-index_of text ends entries are few digest whole pass laid =
+    → ends.archive_len < 2 ^ 64 → HasDigest text → concat entries ≡ entries_in text → PassChecks (start_in text) [] entries
+    → AreLaid (start_in text) entries → HasNumbers text entries → IsIndexText text entries
+index_of text ends entries are few short digest whole pass laid numbers =
     let each : length (concat entries) ≡ 122 * length entries = long_entries (start_in text) [] entries pass in
-    let long : length (concat entries) ≡ 122 * count_in text = ap length whole ∙ length_entries text ends are in
+    let long : length (concat entries) ≡ 122 * count_in text = ap length whole ∙ length_entries text are.has in
     let count : length entries ≡ count_in text = omega (arith, each, long) in
     let start = tables_long text ends are in
     record {
       tables = take (start_in text - 8) (drop 8 text);
-      whole = whole_text text ends are entries whole count digest.same;
+      whole = whole_text text ends are entries whole count digest numbers;
       few = omega (arith, count, are.count_is, few);
+      short = omega (arith, numbers.length_is, are.length_is, short);
       pass = subst (λ (n : ℕ). PassChecks n [] entries) (sym start) pass;
       laid = subst (λ (n : ℕ). AreLaid n entries) (sym start) laid;
     }
@@ -183,82 +187,140 @@ by_front text (Ok tt) is rest = rest is
 by_end : (text : List ℕ) (r : Result (Unit {0}) IndexFaultKind) → check_beginning text ≡ Ok tt → check_end text ≡ r
     → (HasEnds text → IsDecided text) → IsDecided text
 by_end text (Err kind) beginning is rest = inr (
-  record { kind = kind; offset = length text - 41 },
+  record { kind = kind; offset = length text - 57 },
   inr (inl (record { beginning = beginning; fails = is; offset_is = refl })),
 )
 by_end text (Ok tt) beginning is rest = rest (record { beginning = beginning; end = is })
 
+-- whether bytes are stored by a claim
+stored_or_not : (text bytes : List ℕ) (claim : Claim) → length bytes ≡ claim.size → claim.offset + length (stored bytes) ≤ length text
+    → AreStored text claim bytes ⊎ (AreStored text claim bytes → ⊥)
+stored_or_not text bytes claim size within =
+    let here : List ℕ = take (length (stored bytes)) (drop claim.offset text) in
+    elim (cases_Bool (bytes_eq (root_of bytes) claim.root)) [
+      | inr f ↦ inr (λ are. cc (f, (bytes_eq-Decides (root_of bytes) claim.root).1 are.root))
+      | inl root ↦ elim (cases_Bool (bytes_eq here (stored bytes))) [
+        | inr f ↦ inr (λ are. cc (f, (bytes_eq-Decides here (stored bytes)).1 are.bytes))
+        | inl there ↦ inl (record {
+          size = size;
+          root = (bytes_eq-Decides (root_of bytes) claim.root).0 root;
+          within = within;
+          bytes = (bytes_eq-Decides here (stored bytes)).0 there;
+        })
+      ]
+    ]
+
 by_digest : (text : List ℕ) → HasEnds text → (HasDigest text → IsDecided text) → IsDecided text
-by_digest text ends rest = elim (cases_Bool (bytes_eq (sha256 (entries_in text)) (digest_in text))) [
-  | inl t ↦ rest (record { ends = ends; same = (bytes_eq-Decides (sha256 (entries_in text)) (digest_in text)).0 t })
-  | inr f ↦
-      inr (
-        record { kind = BadDigest; offset = start_in text },
-        inr (inr (inl (record {
-          ends = ends;
-          kind_is = refl;
-          offset_is = refl;
-          other = λ same. cc (f, (bytes_eq-Decides (sha256 (entries_in text)) (digest_in text)).1 same);
-        }))),
-      )
-]
+by_digest text ends rest =
+    let size = length_entries text ends in
+    let long : length (stored (entries_in text)) ≡ digests_size (122 * count_in text) + 122 * count_in text =
+    length-stored (entries_in text) ∙ ap (λ n. digests_size n + n) size in
+    let within : start_in text + length (stored (entries_in text)) ≤ length text =
+    omega (arith, long, first_after text ends, first_fills text ends) in
+    elim (stored_or_not text (entries_in text) (entries_claim text) size within) [
+      | inl t ↦ rest (record { ends = ends; stored = t })
+      | inr f ↦
+          inr (
+            record { kind = BadDigest; offset = start_in text },
+            inr (inr (inl (record { ends = ends; kind_is = refl; offset_is = refl; other = f }))),
+          )
+    ]
 
 number_fits : (bs : List ℕ) → IsBytes bs → from_be_bytes w64 bs < 2 ^ 64
 number_fits bs fits = omega (arith, fits 0, fits 1, fits 2, fits 3, fits 4, fits 5, fits 6, fits 7)
 
 module _ (text : List ℕ) (bytes : IsBytes text) (digest : HasDigest text) where
-  abbrev number : List ℕ
-  number = take 8 (drop (length text - 40) text)
+  abbrev end : List ℕ
+  end = drop (length text - 57) text
 
-  number_bytes : IsBytes number
-  number_bytes = IsBytes-take 8 (drop (length text - 40) text) (IsBytes-drop (length text - 40) text bytes)
+  end_long : length end ≡ 57
+  end_long = omega (arith, (front_passed text digest.ends.beginning).1, length-drop (length text - 57) text)
 
-  number_long : length number ≡ 8
-  number_long =
-      let long = (front_passed text digest.ends.beginning).1 in
-      length-take-le 8 (drop (length text - 40) text) (omega (arith, long, length-drop (length text - 40) text))
+  -- eight bytes of the end record
+  abbrev number : ℕ → List ℕ
+  number k = take 8 (drop k end)
+
+  number_bytes : (k : ℕ) → IsBytes (number k)
+  number_bytes k = IsBytes-take 8 (drop k end) (IsBytes-drop k end (IsBytes-drop (length text - 57) text bytes))
+
+  number_long : (k : ℕ) → k ≤ 49 → length (number k) ≡ 8
+  number_long k h = length-take-le 8 (drop k end) (omega (arith, h, end_long, length-drop k end))
+
+  number_is : (k : ℕ) → k ≤ 49 → to_be_bytes w64 (from_be_bytes w64 (number k)) ≡ number k
+  number_is k h = be_bytes_8 (number k) (from_be_bytes w64 (number k)) (number_long k h) (number_bytes k) refl
 
   abbrev ends : Ends
-  ends = record { start = start_in text; count = count_in text; digest = digest_in text }
+  ends = record {
+    start = start_in text;
+    first = first_in text;
+    count = from_be_bytes w64 (number 1);
+    retired = from_be_bytes w64 (number 9);
+    archive_len = from_be_bytes w64 (number 17);
+    root = root_in text;
+  }
 
   are : AreEndsOf text ends
-  are = record {
-    has = digest.ends;
-    start_is = refl;
-    count_is = refl;
-    count_bytes =
-        be_bytes_8 number (count_in text) number_long number_bytes refl;
-    digest_is = refl;
-  }
+  are =
+      let room = (front_passed text digest.ends.beginning).1 in
+      let tag = tag_at text end room refl ∙ (end_passed text digest.ends.end).0 in
+      record {
+        has = digest.ends;
+        start_is = refl;
+        first_is = refl;
+        count_is = number_at text end room refl 1 (omega arith);
+        retired_is = number_at text end room refl 9 (omega arith);
+        length_is = number_at text end room refl 17 (omega arith);
+        root_is = refl;
+        end_is = parts_of_end end ends.count ends.retired ends.archive_len end_long tag (number_is 1 (omega arith))
+            (number_is 9 (omega arith)) (number_is 17 (omega arith))
+            ∙ ap (end_bytes ends.count ends.retired ends.archive_len) (part_at text end room refl 25 (omega arith));
+      }
+
+  unplaced : (p : Parsed (start_in text) [] (entries_in text))
+      → (AreLaid (start_in text) p.entries → HasNumbers text p.entries → ⊥) → IsDecided text
+  unplaced p other =
+      inr (
+        record { kind = BadPlace; offset = start_in text },
+        inr (inr (inr (inr (record {
+          digest = digest;
+          entries = p.entries;
+          whole = p.whole;
+          pass = p.pass;
+          unlaid = other;
+          kind_is = refl;
+          offset_is = refl;
+        })))),
+      )
 
   by_places : Parsed (start_in text) [] (entries_in text) → IsDecided text
   by_places p =
       let s = sorted p.entries in
       elim (follow_or_not 8 8 (start_in text) s.order) [
+        | inr other ↦
+            unplaced p (λ laid numbers. other (follow_sorted (start_in text) p.entries s.order p.pass s.moved s.up laid))
         | inl follow ↦
             let laid : AreLaid (start_in text) p.entries = record { order = s.order; permuted = s.moved; follow = follow } in
-            inl (p.entries, index_of text ends p.entries are (number_fits number number_bytes) digest (sym p.whole) p.pass laid)
-        | inr other ↦
-            inr (
-              record { kind = BadPlace; offset = start_in text },
-              inr (inr (inr (inr (record {
-                digest = digest;
-                entries = p.entries;
-                whole = p.whole;
-                pass = p.pass;
-                unlaid = λ laid. other (follow_sorted (start_in text) p.entries s.order p.pass s.moved s.up laid);
-                kind_is = refl;
-                offset_is = refl;
-              })))),
-            )
+            elim (cases_eq (retirements_in text) (retired_in p.entries)) [
+              | inr other ↦ unplaced p (λ laid numbers. other numbers.retired_is)
+              | inl retired ↦ elim (cases_eq (archive_length_in text) (archive_length p.entries)) [
+                | inr other ↦ unplaced p (λ laid numbers. other numbers.length_is)
+                | inl long ↦
+                    inl (
+                      p.entries,
+                      index_of text ends p.entries are (number_fits (number 1) (number_bytes 1))
+                          (number_fits (number 17) (number_bytes 17)) digest (sym p.whole) p.pass laid
+                          (record { retired_is = retired; length_is = long }),
+                    )
+              ]
+            ]
       ]
 
   by_entries : IsDecided text
-  by_entries = elim (parse (start_in text) (count_in text) [] (entries_in text) (length_entries text ends are)) [
+  by_entries = elim (parse (start_in text) (count_in text) [] (entries_in text) (length_entries text digest.ends)) [
     | inl p ↦ by_places p
     | inr s ↦
         inr (
-          record { kind = s.kind; offset = start_in text + length (concat s.before) },
+          record { kind = s.kind; offset = first_in text + length (concat s.before) },
           inr (inr (inr (inl (record {
             digest = digest;
             before = s.before;

@@ -44,7 +44,7 @@ in_run xs start stop i e lt is =
 -- ---- retirements before admissions
 
 -- what stands after an admission is no retirement
-not_before : (x y : List ℕ) → get_or x 0 0 ≡ 2 → order x y ≡ Less → eqb (get_or y 0 0) 1 ≡ false
+pub not_before : (x y : List ℕ) → get_or x 0 0 ≡ 2 → order x y ≡ Less → eqb (get_or y 0 0) 1 ≡ false
 not_before [] y e h = absurd (omega (arith, e))
 not_before (a ∷ xs) [] e h = refl
 not_before (a ∷ xs) (b ∷ ys) e h = by_test _ (eqb b 1)

@@ -1,29 +1,36 @@
 -- Records that are gathered one after another, by the entries that name them.
 use Rattle.std.proofs.Common.{◌≡◌, ℕ, ◌+◌, ◌<◌, ◌≤◌, zero, suc, Bool, true, false, cond, List, [], ◌∷◌, ◌++◌, length}
-use Rattle.std.proofs.Common.{map, take, get_or, Option, Some, None, sym, ap, ◌∙◌, subst, append_assoc, arith}
+use Rattle.std.proofs.Common.{map, take, get_or, nat_lt, Option, Some, None, refl, sym, ap, ◌∙◌, subst, append_assoc, arith}
 use Rattle.std.specs.Prelude.{filter, IfSome, Result, Ok, Err}
 use Rattle.std.specs.List.{AllWithin, AllZip}
+use Rattle.std.proofs.Math.ListN.{length-map}
+use Rattle.std.proofs.lemmas.Bool.Decides.{nat_tests}
 use Rattle.std.proofs.lemmas.List.{append-nil, take_all}
-use Rattle.std.proofs.lemmas.Option.{IfSome_then}
-use Rattle.std.proofs.lemmas.List.Elements.{All-from_recursion, AllZip-push, filter_more}
+use Rattle.std.proofs.lemmas.Map.Keys.{below_from_sorted}
+use Rattle.std.proofs.lemmas.Option.{IfSome_then, slice_get-get_or}
+use Rattle.std.proofs.lemmas.List.Elements.{All-from_recursion, AllZip-push, filter_more, recursion_from_All}
 use Rattle.archive_core.specs.Content.{Operations, is_admission, with_records}
 use Rattle.archive_core.specs.Part.{is_under}
-use Rattle.archive_core.proofs.Made.{and_right}
+use Rattle.archive_core.proofs.Made.{and_right, by_test}
 use Rattle.archive_core.specs.Record.{record_bytes}
 use Rattle.archive_core.specs.declared.operations.Operation.{Operation}
 use Rattle.archive_core.proofs.Taken.{IsUnderWay}
 use Rattle.index_format.specs.Entry.{IsPlacedEntry, length_in, offset_in}
 use Rattle.index_format.specs.Index.{AreIndexed}
-use Rattle.index_format.specs.Places.{BlamesPlaced, FailsAmong, IsNamedBy}
+use Rattle.index_format.specs.Places.{BlamesPlaced, FailsAmong, FailsUnder, IsNamedBy}
 use Rattle.byte_device.specs.Devices.{FailedIn, FailsWithin}
 use Rattle.index_format.specs.declared.fault.PlaceFault.{PlaceFault}
 use Rattle.index_format.specs.declared.fault.PlaceFault.TheVariants.{Stale, Device, OutOfMemory}
-use Rattle.archive_core.specs.Summary.{Entries}
-use Rattle.archive_records.proofs.Puts.{length_written}
-use Rattle.join_core.specs.Listing.{listing}
-use Rattle.index_format.specs.InnerGathering.{AreGathered, FailsOf, IsGathered, IsStaleAmong, IsUnnamed}
+use Rattle.index_format.specs.InnerGathering.{AreGathered, FailsOf, IsGathered, IsStaleAmong, IsUnnamed, numbered_fault}
 use Rattle.index_format.specs.Gathering.{AreGatheredUnder, IsEntryFault, ReadsPlaces}
 use Rattle.index_format.specs.Runs.{is_tagged}
+use Rattle.index_format.specs.Spread.{AreNumbers, spread}
+use Rattle.index_format.specs.Entry.{entry_bytes, placed_bytes, HasItsFields}
+use Rattle.index_format.specs.Spread.{ArePart}
+use Rattle.index_format.specs.Text.{placed_in}
+use Rattle.index_format.specs.declared.entry.IndexEntry.{IndexEntry}
+use Rattle.index_format.proofs.Fronts.{are_indexed, fronts}
+use Rattle.index_format.proofs.PartLemmas.{at_number, filter_spread, fronts_spread, length_spread, number_of}
 use Rattle.index_format.proofs.RunLemmas.{past}
 use Rattle.index_format.proofs.EntryOrder.{not_second, one_of_two, two_runs}
 
@@ -216,27 +223,125 @@ module _ (whole : Option (List ℕ)) (prefix : List ℕ) (entries : List (List �
 
   -- ---- under a prefix of an index
 
-  pub under_front : (s : Entries) (old new : List (List ℕ)) → entries ≡ listing s
-      → AreGathered whole (is_under prefix) entries n old new → AreGatheredUnder whole prefix s old new
-  under_front s old new is h = record {
+  pub under_front : (every old new : List (List ℕ)) → filter (is_under prefix) every ≡ filter (is_under prefix) entries
+      → AreGathered whole (is_under prefix) entries n old new → AreGatheredUnder whole prefix every old new
+  under_front every old new same h = record {
     records = h.records;
-    named = IfSome_then whole h.named (λ text zip. subst
-        (λ (xs : List (List ℕ)). AllZip (IsNamedBy text) (filter (is_under prefix) xs) h.records)
-        (take_all n entries all ∙ is) zip);
+    named = IfSome_then whole h.named (λ text zip. subst (λ (xs : List (List ℕ)). AllZip (IsNamedBy text) xs h.records)
+        (ap (filter (is_under prefix)) (take_all n entries all) ∙ sym same) zip);
     behind = h.behind;
   }
 
-  pub fault_under : (s : Entries) (fault : PlaceFault) → entries ≡ listing s
-      → IfSome whole (λ text. IsStaleAmong (is_under prefix) entries text fault)
-      → IfSome whole (λ text. IsEntryFault prefix s text fault)
-  fault_under s fault is h =
-      IfSome_then whole (subst (λ (xs : List (List ℕ)). IfSome whole (λ text. IsStaleAmong (is_under prefix) xs text fault)) is h) (by fault)
-    where
-      by : (f : PlaceFault) (text : List ℕ) → IsStaleAmong (is_under prefix) (listing s) text f → IsEntryFault prefix s text f
-      by (Stale None) text t = t
-      by (Stale (Some k)) text t = (omega (arith, t.0, length_written s), t.1, t.2, t.3)
-      by (Device offset) text t = tt
-      by OutOfMemory text t = tt
+  -- by the numbers that entries have among all
+  module _ (none : is_under prefix [] ≡ false) (count : ℕ) (ns : List ℕ) (many : length ns ≡ length entries) (numbers : AreNumbers count ns) where
+    abbrev every : List (List ℕ)
+    every = spread count ns entries
+
+    earlier : (place at : ℕ) → place < length ns → get_or ns place 0 < get_or ns at 0 → place < at
+    earlier place at within below = by_test _ (nat_lt place at) (λ yes. grind (arith, nat_tests))
+        (λ no. by_test _ (nat_lt at place)
+        (λ after.
+        let later : at < place = grind (arith, nat_tests) in
+        absurd (omega (arith, below_from_sorted ns at place 0 numbers.ascending later within, below)))
+        (λ same.
+        let is : at ≡ place = grind (arith, nat_tests) in
+        absurd (omega (arith, below, ap (λ (i : ℕ). get_or ns i 0) is))))
+
+    pub fault_under : (fault : PlaceFault) → IfSome whole (λ text. IsStaleAmong (is_under prefix) entries text fault)
+        → IfSome whole (λ text. IsEntryFault prefix every text (numbered_fault ns fault))
+    fault_under fault h = IfSome_then whole h (by fault)
+      where
+        by : (f : PlaceFault) (text : List ℕ) → IsStaleAmong (is_under prefix) entries text f → IsEntryFault prefix every text (numbered_fault ns f)
+        by (Stale None) text t = t
+        by (Stale (Some at)) text t =
+            let within : at < length ns = omega (arith, t.0, many) in
+            let here = at_number count ns entries at many numbers within in
+            subst (λ (o : Option ℕ). IsEntryFault prefix every text (Stale o)) (sym (slice_get-get_or ns at 0 within)) (record {
+              within = omega (arith, here.0, length_spread count ns entries);
+              under = ap (is_under prefix) here.1 ∙ t.1;
+              unnamed = λ r named. t.2 r (subst (λ (e : List ℕ). IsNamedBy text e r) here.1 named);
+              first = λ j below under.
+                  let one = number_of (is_under prefix) count ns entries j none (omega (arith, below, here.0)) under in
+                  let named = t.3 one.place (earlier one.place at one.within (omega (arith, one.number_is, below)))
+                  (ap (is_under prefix) one.entry_is ∙ under) in
+                  (named.0, subst (λ (e : List ℕ). IsNamedBy text e named.0) one.entry_is named.1);
+            })
+        by (Device offset) text t = tt
+        by OutOfMemory text t = tt
+
+    -- and which read failed
+    pub fails_numbered : (Fails : ℕ → ℕ → Type 0) (offset : ℕ) → FailsAmong Fails (is_under prefix) entries offset
+        → FailsAmong Fails (is_under prefix) every offset
+    fails_numbered Fails offset h =
+        let here = at_number count ns entries h.number many numbers (omega (arith, h.within, many)) in
+        record {
+          number = get_or ns h.number 0;
+          within = omega (arith, here.0, length_spread count ns entries);
+          passing = ap (is_under prefix) here.1 ∙ h.passing;
+          admits = ap is_admission here.1 ∙ h.admits;
+          offset_is = h.offset_is ∙ ap offset_in (sym here.1);
+          fails = subst (λ (e : List ℕ). Fails offset (length_in e)) (sym here.1) h.fails;
+        }
+
+    pub blamed_numbered : {P : Type 0} (M N : ℕ → Type 0) (failures : P → ℕ) (old new : P) (fault : PlaceFault) → ((k : ℕ) → M k → N k)
+        → BlamesPlaced M failures old new fault → BlamesPlaced N failures old new (numbered_fault ns fault)
+    blamed_numbered M N failures old new (Stale (Some at)) read h = h
+    blamed_numbered M N failures old new (Stale None) read h = h
+    blamed_numbered M N failures old new (Device offset) read h = (h.0, read offset h.1)
+    blamed_numbered M N failures old new OutOfMemory read h = h
+
+-- the entries of a part without their claims
+pub placed_part : (count : ℕ) (ns : List ℕ) (items : List IndexEntry) → ArePart count ns items
+    → placed_in (spread count ns (map entry_bytes items)) ≡ spread count ns (map placed_bytes items)
+placed_part count ns items part =
+    fronts_spread (take 74) count ns (map entry_bytes items) refl
+    ∙ ap (spread count ns) (sym (fronts items (recursion_from_All HasItsFields items part.ordered.fields)))
+
+-- an entry without bytes is under no prefix
+none_under : (prefix : List ℕ) → 0 < length prefix → is_under prefix [] ≡ false
+unfolding is_under
+none_under [] some = absurd (omega (arith, some))
+none_under (x ∷ xs) some = refl
+
+module _ (count : ℕ) (ns : List ℕ) (items : List IndexEntry) (part : ArePart count ns items) (prefix : List ℕ)
+    (some : 0 < length prefix) where
+  abbrev fronts_in : List (List ℕ)
+  fronts_in = map placed_bytes items
+
+  few : length fronts_in ≤ length items
+  few = omega (arith, length-map items placed_bytes)
+
+  as_many : length ns ≡ length fronts_in
+  as_many = part.many ∙ sym (length-map items placed_bytes)
+
+  -- what was gathered by the entries of a part
+  pub gathered_part : (whole : Option (List ℕ)) (every old new : List (List ℕ)) → spread count ns (map entry_bytes items) ≡ every
+      → AreGathered whole (is_under prefix) fronts_in (length items) old new → AreGatheredUnder whole prefix (placed_in every) old new
+  gathered_part whole every old new is h =
+      under_front whole prefix fronts_in (are_indexed items part.ordered) (length items) few (placed_in every) old new
+      (ap (λ (es : List (List ℕ)). filter (is_under prefix) (placed_in es)) (sym is)
+      ∙ ap (filter (is_under prefix)) (placed_part count ns items part)
+      ∙ filter_spread (is_under prefix) count ns fronts_in (none_under prefix some) as_many part.numbered) h
+
+  -- and why nothing was
+  pub refused_part : {P : Type 0} (whole : P → Option (List ℕ)) (failures : P → ℕ) (old new : P) (Fails : ℕ → ℕ → Type 0)
+      (every : List (List ℕ)) (fault : PlaceFault) → spread count ns (map entry_bytes items) ≡ every
+      → IfSome (whole old) (λ text. IsStaleAmong (is_under prefix) fronts_in text fault) × (whole new ≡ whole old)
+      × BlamesPlaced (FailsAmong Fails (is_under prefix) fronts_in) failures old new fault
+      → IfSome (whole old) (λ text. IsEntryFault prefix (placed_in every) text (numbered_fault ns fault)) × (whole new ≡ whole old)
+      × BlamesPlaced (FailsUnder Fails prefix (placed_in every)) failures old new (numbered_fault ns fault)
+  refused_part whole failures old new Fails every fault is h =
+      let indexed = are_indexed items part.ordered in
+      let none = none_under prefix some in
+      let bytes : spread count ns fronts_in ≡ placed_in every = sym (placed_part count ns items part) ∙ ap placed_in is in
+      subst (λ (es : List (List ℕ)). IfSome (whole old) (λ text. IsEntryFault prefix es text (numbered_fault ns fault))
+      × (whole new ≡ whole old) × BlamesPlaced (FailsUnder Fails prefix es) failures old new (numbered_fault ns fault)) bytes (
+        fault_under (whole old) prefix fronts_in indexed (length items) few none count ns as_many part.numbered fault h.0,
+        h.1,
+        blamed_numbered (whole old) prefix fronts_in indexed (length items) few none count ns as_many part.numbered
+            (FailsAmong Fails (is_under prefix) fronts_in) (FailsUnder Fails prefix (spread count ns fronts_in)) failures old new fault
+            (fails_numbered (whole old) prefix fronts_in indexed (length items) few none count ns as_many part.numbered Fails) h.2,
+      )
 
 -- ---- after what was read before
 

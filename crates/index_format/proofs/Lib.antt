@@ -11,6 +11,13 @@ pub mod Made
 pub mod Versions
 pub mod Blamed
 pub mod RunLemmas
+pub mod PagedLemmas
+pub mod SpreadLemmas
+pub mod PartLemmas
+pub mod PartTags
+pub mod PartChecks
+pub mod PartTexts
+pub mod ReadRuns
 pub mod NamedRecord
 pub mod EntryOrder
 pub mod Gathered
@@ -20,6 +27,7 @@ pub mod Checks
 pub mod ReadLemmas
 pub mod EndLemmas
 pub mod Faults
+pub mod MayHave
 pub mod PlaceLemmas
 pub mod Fronts
 pub mod Decided

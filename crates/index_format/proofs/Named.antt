@@ -175,7 +175,7 @@ zip_right P xs ys q z (k, lt, is) =
     (get_or xs k [], Contains-get_or xs k [] within, subst (P (get_or xs k [])) is (AllZip-get_or P xs ys k [] q z within))
 
 -- an entry under a front
-in_under : (front : List ℕ) (s : Entries) (e : List ℕ) → Contains (entries_under front s) e → (set.contains s e ≡ true) × (is_under front e ≡ true)
+in_under : (front : List ℕ) (s : Entries) (e : List ℕ) → Contains (entries_under front (listing s)) e → (set.contains s e ≡ true) × (is_under front e ≡ true)
 in_under front s e h =
     let kept = in_filter (is_under front) (listing s) e h in
     ((in_listing nat_list_cmp_total bytes_same s e).0 kept.0, kept.1)
@@ -208,11 +208,11 @@ unfolding is_under
 under_same front offset r short is = ap (bytes_eq front) (front_same (length front) offset r short is)
 
 module _ (front : List ℕ) (o : Operations) (text : List ℕ) (records : List (List ℕ)) (short : length front ≤ 24) (content : IsContent o)
-    (named : AllZip (IsNamedBy text) (entries_under front (index o)) records)
+    (named : AllZip (IsNamedBy text) (entries_under front (listing (index o))) records)
     (own : (e r : List ℕ) → Contains records r → (p : IsEntryIn o e) → IsNamedBy text e r → r ≡ p.r) where
   into_part : (q : List ℕ) → Contains records q → set.contains (part o (is_under front)) q ≡ true
   into_part q h =
-      let found = zip_right (IsNamedBy text) (entries_under front (index o)) records q named h in
+      let found = zip_right (IsNamedBy text) (entries_under front (listing (index o))) records q named h in
       let e = found.0 in
       let there = in_under front (index o) e found.1 in
       let p = entry_in o e there.0 in
@@ -229,7 +229,7 @@ module _ (front : List ℕ) (o : Operations) (text : List ℕ) (records : List (
       let e = found.0 in
       let under : is_under front e ≡ true = ap (is_under front) found.3 ∙ under_same front found.2 q short (content.records q both.0) ∙ both.1 in
       let there = to_filter (is_under front) (listing (index o)) e ((in_listing nat_list_cmp_total bytes_same (index o) e).1 found.1) under in
-      let zipped = zip_left (IsNamedBy text) (entries_under front (index o)) records e named there in
+      let zipped = zip_left (IsNamedBy text) (entries_under front (listing (index o))) records e named there in
       let p : IsEntryIn o e = record { r = q; offset = found.2; member = both.0; entry_is = found.3; stands = found.4; within = found.5 } in
       subst (Contains records) (own e zipped.0 zipped.1 p zipped.2) zipped.1
 
@@ -242,12 +242,12 @@ module _ (front : List ℕ) (o : Operations) (text : List ℕ) (records : List (
 
 -- with the index of the archive whose text this is
 pub right : (front : List ℕ) (o p : Operations) → length front ≤ 24 → IsContent o → length (written o) < 2 ^ 64
-    → AreNamed front (index o) (written o) p → p ≡ part o (is_under front)
+    → AreNamed front (listing (index o)) (written o) p → p ≡ part o (is_under front)
 right front o p short content fits n = n.made ∙ content_is front o (written o) n.records short content n.named
     (λ e r _ q named. right_record o e r content fits q named)
 
 -- over any text, where digests tell
 pub of_the_index : (front text : List ℕ) (o p : Operations) → length front ≤ 24 → IsContent o
-    → (n : AreNamed front (index o) text p) → TellsFound o n.records → p ≡ part o (is_under front)
+    → (n : AreNamed front (listing (index o)) text p) → TellsFound o n.records → p ≡ part o (is_under front)
 of_the_index front text o p short content n tells = n.made ∙ content_is front o text n.records short content n.named (λ e r there q named.
     own_record o text e r content q named (λ a b in_o rb same. tells a b in_o (subst (Contains n.records) rb there) same))

@@ -50,7 +50,7 @@ module _ (test : Ordering → Bool) (less : test Less ≡ true) (greater : test 
       g
 
   -- so the test of how they begin parts entries that ascend
-  parts : (n : ℕ) (w : List ℕ) (xs : List (List ℕ)) → IsStrictlySortedBy order xs
+  pub parts : (n : ℕ) (w : List ℕ) (xs : List (List ℕ)) → IsStrictlySortedBy order xs
       → AllByRecursion (λ e. n ≤ length e) xs → IsPartitionedBy (λ e. test (begins n w e)) xs
   parts n w xs ascending long i j d le lt t = by_test _ (nat_lt i j)
       (λ yes.
@@ -71,7 +71,7 @@ module _ (test : Ordering → Bool) (less : test Less ≡ true) (greater : test 
       (omega (arith, length-map xs bytes_of)) (subst P (sym (get_or-map bytes_of xs j d)) t))
 
 -- an entry has a tag and a front where it begins with the two
-tagged : (tag : ℕ) (front e : List ℕ) → 0 < length e → is_eq (begins (length front + 1) (tag ∷ front) e) ≡ is_tagged tag front e
+pub tagged : (tag : ℕ) (front e : List ℕ) → 0 < length e → is_eq (begins (length front + 1) (tag ∷ front) e) ≡ is_tagged tag front e
 unfolding is_under
 tagged tag front [] some = absurd (omega arith)
 tagged tag front (x ∷ xs) some =

@@ -1,10 +1,9 @@
 -- The records that are gathered at the offsets in an index.
-use Rattle.std.specs.Prelude.{◌≡◌, ◌<◌, ◌^◌, ℕ, List, ◌++◌, length, Option, Some, None, IfSome, Result, Ok, Err}
+use Rattle.std.specs.Prelude.{◌≡◌, ◌≢◌, ℕ, List, ◌++◌, length, Option, Some, None, IfSome, Result, Ok, Err}
 use Rattle.std.specs.List.{AllZip}
-use Rattle.archive_core.specs.Summary.{Entries}
 use Rattle.index_format.specs.declared.fault.PlaceFault.{PlaceFault}
 use Rattle.index_format.specs.declared.fault.PlaceFault.TheVariants.{Stale, Device, OutOfMemory}
-use Rattle.index_format.specs.Places.{BlamesPlaced, IsNamedBy, HasIndexedLength, IsStale, entries_under}
+use Rattle.index_format.specs.Places.{BlamesPlaced, IsNamedBy, IsStale, entries_under}
 
 -- The result of reading at offsets of a device that keeps its bytes: a value with the first property, and no failure;
 -- or a fault, which says whether the device failed and at which offset, and has the second property if the bytes are
@@ -19,22 +18,22 @@ ReadsPlaces whole failures old new (Err fault) IsTrue IsRefused IsRead =
 
 -- Each entry with the prefix names one of these records, in their order, and they follow those that were gathered
 -- before.
-pub record AreGatheredUnder (whole : Option (List ℕ)) (prefix : List ℕ) (entries : Entries) (old new : List (List ℕ))
+pub record AreGatheredUnder (whole : Option (List ℕ)) (prefix : List ℕ) (entries : List (List ℕ)) (old new : List (List ℕ))
     : Type 0 where
   pub records : List (List ℕ)
   pub named : IfSome whole (λ text. AllZip (IsNamedBy text) (entries_under prefix entries) records)
   pub behind : new ≡ old ++ records
 
 -- why nothing is gathered for a prefix: an entry names no record of the text
-abbrev pub IsEntryFault : List ℕ → Entries → List ℕ → PlaceFault → Type 0
+abbrev pub IsEntryFault : List ℕ → List (List ℕ) → List ℕ → PlaceFault → Type 0
 IsEntryFault prefix entries text (Stale None) = ⊥
-IsEntryFault prefix entries text (Stale (Some k)) = IsStale prefix entries text (Some k)
+IsEntryFault prefix entries text (Stale (Some k)) = IsStale prefix entries text k
 IsEntryFault prefix entries text (Device offset) = Unit {0}
 IsEntryFault prefix entries text OutOfMemory = Unit {0}
 
--- why the size of an archive is refused: the index has another
-abbrev pub IsLengthFault : Entries → List ℕ → PlaceFault → Type 0
-IsLengthFault entries text (Stale None) = (HasIndexedLength entries text → ⊥) × (length text < 2 ^ 64)
-IsLengthFault entries text (Stale (Some k)) = ⊥
-IsLengthFault entries text (Device offset) = Unit {0}
-IsLengthFault entries text OutOfMemory = Unit {0}
+-- why the size of an archive is refused: it has another
+abbrev pub IsSizeFault : ℕ → List ℕ → PlaceFault → Type 0
+IsSizeFault size text (Stale None) = length text ≢ size
+IsSizeFault size text (Stale (Some k)) = ⊥
+IsSizeFault size text (Device offset) = Unit {0}
+IsSizeFault size text OutOfMemory = ⊥

@@ -1,6 +1,6 @@
 -- Records that are gathered one after another at the offsets in an index: the terms of the inner functions. No contract
 -- of a public function has them.
-use Rattle.std.specs.Prelude.{◌≡◌, ◌<◌, ℕ, Bool, true, List, [], ◌∷◌, ◌++◌, length, take, filter}
+use Rattle.std.specs.Prelude.{◌≡◌, ◌<◌, ℕ, Bool, true, List, [], ◌∷◌, ◌++◌, length, take, filter, slice_get}
 use Rattle.std.specs.Prelude.{slice_index_or, Option, Some, None, IfSome}
 use Rattle.std.specs.List.{AllZip}
 use Rattle.index_format.specs.declared.fault.PlaceFault.{PlaceFault}
@@ -44,3 +44,10 @@ IsStaleAmong passes entries text (Stale (Some k)) =
     → (r : List ℕ) × IsNamedBy text (slice_index_or entries j []) r)
 IsStaleAmong passes entries text (Device offset) = Unit {0}
 IsStaleAmong passes entries text OutOfMemory = Unit {0}
+
+-- the fault of an entry that has one of these numbers, by its place among them
+abbrev pub numbered_fault : List ℕ → PlaceFault → PlaceFault
+numbered_fault numbers (Stale (Some at)) = Stale (slice_get numbers at)
+numbered_fault numbers (Stale None) = Stale None
+numbered_fault numbers (Device offset) = Device offset
+numbered_fault numbers OutOfMemory = OutOfMemory

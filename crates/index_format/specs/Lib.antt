@@ -8,6 +8,12 @@ pub mod Places
 pub mod InnerMaking
 pub mod InnerReading
 pub mod Runs
+pub mod Paged
+pub mod Spread
+pub mod InnerPaged
+pub mod Tree
+pub mod Part
+pub mod InnerPart
 pub mod IndexFaultText
 pub mod Gathering
 pub mod InnerGathering

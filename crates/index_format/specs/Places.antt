@@ -1,10 +1,9 @@
 -- The records that are read at the offsets in an index.
 use Rattle.std.specs.Prelude.{◌≡◌, ℕ, ◌+◌, ◌^◌, ◌<◌, Bool, List, [], true, length, take, drop, filter}
-use Rattle.std.specs.Prelude.{slice_index_or, Contains, Option, Some, None}
+use Rattle.std.specs.Prelude.{slice_index_or, Contains}
 use Rattle.std.specs.List.{AllZip}
 use Rattle.std.specs.FinSet as set
 use Rattle.sha2.specs.Sha256.{sha256}
-use Rattle.join_core.specs.Listing.{listing}
 use Rattle.archive_core.specs.Record.{IsRecord, admission_record}
 use Rattle.archive_core.specs.Content.{Operations, is_admission, content_of}
 use Rattle.archive_core.specs.Part.{is_under}
@@ -25,11 +24,11 @@ pub record IsNamedBy (text entry record_is : List ℕ) : Type 0 where
   pub stands : is_admission record_is ≡ true → take (length record_is) (drop offset text) ≡ record_is
 
 -- the entries with a prefix, a UUID or a key, in their order
-abbrev pub entries_under : List ℕ → Entries → List (List ℕ)
-entries_under front entries = filter (is_under front) (listing entries)
+abbrev pub entries_under : List ℕ → List (List ℕ) → List (List ℕ)
+entries_under front entries = filter (is_under front) entries
 
 -- Each entry with the prefix names one of these records, in their order, and this is their content.
-pub record AreNamed (front : List ℕ) (entries : Entries) (text : List ℕ) (p : Operations) : Type 0 where
+pub record AreNamed (front : List ℕ) (entries : List (List ℕ)) (text : List ℕ) (p : Operations) : Type 0 where
   pub records : List (List ℕ)
   pub named : AllZip (IsNamedBy text) (entries_under front entries) records
   pub made : p ≡ content_of (set.from_list records)
@@ -49,14 +48,12 @@ AreNamedBefore front entries text k =
     (j : ℕ) → j < k → is_under front (slice_index_or entries j []) ≡ true
     → (r : List ℕ) × IsNamedBy text (slice_index_or entries j []) r
 
--- Why a part is not read at its offsets: the text has another length than the index implies, or this entry with the
--- prefix, counted from 0 among all, names no record at its offset, and it is the first such entry.
-abbrev pub IsStale : List ℕ → Entries → List ℕ → Option ℕ → Type 0
-IsStale front entries text None = HasIndexedLength entries text → ⊥
-IsStale front entries text (Some k) =
-    (k < set.len entries) × (is_under front (slice_index_or (listing entries) k []) ≡ true)
-    × ((r : List ℕ) → IsNamedBy text (slice_index_or (listing entries) k []) r → ⊥)
-    × AreNamedBefore front (listing entries) text k
+-- This entry with the prefix, counted from 0 among all, names no record at its offset, and it is the first such entry.
+pub record IsStale (front : List ℕ) (entries : List (List ℕ)) (text : List ℕ) (k : ℕ) : Type 0 where
+  pub within : k < length entries
+  pub under : is_under front (slice_index_or entries k []) ≡ true
+  pub unnamed : (r : List ℕ) → IsNamedBy text (slice_index_or entries k []) r → ⊥
+  pub first : AreNamedBefore front entries text k
 
 -- of these entries, one that passes is that of an admission whose record begins at this offset
 pub record IsReadAmong (passes : List ℕ → Bool) (es : List (List ℕ)) (offset : ℕ) : Type 0 where
@@ -67,8 +64,8 @@ pub record IsReadAmong (passes : List ℕ → Bool) (es : List (List ℕ)) (offs
   pub offset_is : offset ≡ offset_in (slice_index_or es number [])
 
 -- the record of an admission whose entry has the prefix begins at this offset
-abbrev pub IsReadUnder : List ℕ → Entries → ℕ → Type 0
-IsReadUnder front entries offset = IsReadAmong (is_under front) (listing entries) offset
+abbrev pub IsReadUnder : List ℕ → List (List ℕ) → ℕ → Type 0
+IsReadUnder front entries offset = IsReadAmong (is_under front) entries offset
 
 -- Of these entries, one that passes is that of an admission whose record begins at this offset, and a read of this
 -- number of bytes from there failed.
@@ -82,8 +79,8 @@ pub record FailsAmong (Fails : ℕ → ℕ → Type 0) (passes : List ℕ → Bo
   pub fails : Fails offset (length_in (slice_index_or es number []))
 
 -- the same for the entries with the prefix
-abbrev pub FailsUnder : (ℕ → ℕ → Type 0) → List ℕ → Entries → ℕ → Type 0
-FailsUnder Fails front entries offset = FailsAmong Fails (is_under front) (listing entries) offset
+abbrev pub FailsUnder : (ℕ → ℕ → Type 0) → List ℕ → List (List ℕ) → ℕ → Type 0
+FailsUnder Fails front entries offset = FailsAmong Fails (is_under front) entries offset
 
 -- the state of the device after a fault: it failed at an offset that is read, or it did not fail
 abbrev pub BlamesPlaced : {P : Type 0} → (ℕ → Type 0) → (P → ℕ) → P → P → PlaceFault → Type 0

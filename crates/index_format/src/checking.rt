@@ -72,7 +72,7 @@ fn has_claim(bytes: &[u8], end: u64) -> bool
 
 /// Checks an entry after this last one, if the tables end at this offset.
 #[tactic(auto, unfolding(crate::specs::Text::check_entry))]
-fn check_entry(last: &[u8], bytes: &[u8], end: u64) -> Result<(), IndexFaultKind>
+pub(crate) fn check_entry(last: &[u8], bytes: &[u8], end: u64) -> Result<(), IndexFaultKind>
     requires { length bytes.now ≡ 122 }
     ensures checked { result ≡ check_entry end last.now bytes.now }
     ensures faulty { IfErr result (λ kind. kind ≢ Device) }
@@ -95,18 +95,19 @@ fn check_entry(last: &[u8], bytes: &[u8], end: u64) -> Result<(), IndexFaultKind
     Ok(())
 }
 
-/// The entries with these bytes, if the tables end at this offset.
+/// The entries with these bytes, which begin at the offset `first`, if the tables end at the offset `end`.
 pub(crate) fn entries_in(
     heap: Heap,
     bytes: &[u8],
     count: u64,
     end: u64,
+    first: u64,
 ) -> Result<Vec<IndexEntry, Heap>, IndexFault>
     requires whole { length bytes.now ≡ 122 * count }
-    requires fits { end + length bytes.now < 2 ^ 64 }
+    requires fits { first + length bytes.now < 2 ^ 64 }
     ensures read { IfOk result (λ entries. AreChecked end bytes.now entries.items) }
     ensures faulty { IfErr result (λ fault. ((fault.kind ≡ OutOfMemory) × (fault.offset ≡ end))
-        ⊎ ((before : List (List ℕ)) × FailsAfter end bytes.now before fault)) }
+        ⊎ ((before : List (List ℕ)) × FailsAfter end first bytes.now before fault)) }
     ensures device { IfErr result (λ fault. fault.kind ≢ Device) }
 {
     let mut entries = Vec::new(heap);
@@ -117,7 +118,7 @@ pub(crate) fn entries_in(
         if let Err(kind) = check_entry(last, entry, end) {
             return Err(IndexFault {
                 kind,
-                offset: end + at as u64,
+                offset: first + at as u64,
             });
         }
         last = entry;

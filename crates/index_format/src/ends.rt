@@ -3,6 +3,7 @@
 ghost use Rattle.std.specs.Prelude.{◌≡◌, ◌≢◌, ◌↔◌, ◌+◌, ◌-◌, ◌*◌, ◌<◌, ◌≤◌, ◌^◌, ℕ, List, Ok};
 ghost use Rattle.std.specs.Prelude.{IfOk, IfErr, OnOk, MatchResult, IsTrue, length, slice_index, take, drop, min};
 ghost use Rattle.std.specs.Str.{bytes_eq};
+ghost use Rattle.table_checked_pages.specs.Pages.{digests_size};
 ghost use Rattle.index_format.specs.Text.{earlier_magic, index_magic};
 ghost use Rattle.index_format.specs.Fault.{FailsInBeginning, FailsAtEnd, check_beginning};
 ghost use Rattle.index_format.specs.InnerReading.{AreEndsOf, FailsInEnds, HasBeginning, IsUnread};
@@ -14,25 +15,35 @@ use crate::{IndexFault, IndexFaultKind};
 use archive_records::number_at;
 use byte_device::{Failed, Placed, ReadFault, read_at};
 use heap_memory::Heap;
+use table_checked_pages::digests_len;
 
 /// The length of the magic in bytes.
 pub(crate) const MAGIC_LEN: u64 = archive_records::MAGIC_LEN as u64;
 
 /// The length of the end record in bytes.
-const END_LEN: u64 = 41;
+const END_LEN: u64 = 57;
+
+/// The length of both in bytes.
+const ENDS_LEN: u64 = MAGIC_LEN + END_LEN;
 
 /// The tag of the end record.
 const END: u8 = 3;
 
-/// The fields of the end record.
+/// The fields of the end record, and the offsets of the entries.
 #[derive(Clone, Copy)]
 pub(crate) struct Ends {
-    /// The offset of the entries.
+    /// The offset of the stored entries: of the digests before them, if there are any.
     pub start: u64,
+    /// The offset of the first entry.
+    pub first: u64,
     /// The number of entries.
     pub count: u64,
-    /// The SHA-256 of their bytes.
-    pub digest: [u8; 32],
+    /// The number of retirements among them.
+    pub retired: u64,
+    /// The length of the archive.
+    pub archive_len: u64,
+    /// The root of the stored entries.
+    pub root: [u8; 32],
 }
 
 /// The magic of an index: its first eight bytes.
@@ -97,12 +108,16 @@ fn is_earlier(beginning: &[u8]) -> bool
     beginning == b"MSYMIDX1".as_slice()
 }
 
-/// Whether the size has room for the magic, an end record and this number of entries.
-fn has_room(size: u64, count: u64) -> bool
-    ensures { IsTrue result ↔ (49 + 122 * count ≤ size) }
+/// Whether the size has room for the magic, this number of entries as they are stored, and an end record, and no more
+/// of the entries are retirements.
+fn fit(size: u64, count: u64, retired: u64) -> bool
+    ensures { IsTrue result ↔ ((65 + (digests_size (122 * count) + 122 * count) ≤ size) × (retired ≤ count)) }
 {
-    let entries = ENTRY_LEN as u128 * u128::from(count);
-    u128::from(MAGIC_LEN + END_LEN) + entries <= u128::from(size)
+    let Some(len) = (ENTRY_LEN as u64).checked_mul(count) else {
+        return false;
+    };
+    let needed = u128::from(ENDS_LEN) + u128::from(digests_len(len)) + u128::from(len);
+    needed <= u128::from(size) && retired <= count
 }
 
 /// Checks the beginning of a text with this size and these first bytes.
@@ -110,7 +125,7 @@ fn check_beginning(size: u64, beginning: &[u8]) -> Result<(), IndexFault>
     requires { length beginning.now ≡ min size 8 }
     ensures checked { (text : List ℕ) → size ≡ length text → beginning.now ≡ take 8 text
         → MatchResult result (λ _. check_beginning text ≡ Ok tt) (FailsInBeginning text) }
-    ensures room { OnOk result (49 ≤ size) }
+    ensures room { OnOk result (65 ≤ size) }
     ensures faulty { IfErr result (λ fault. fault.kind ≢ Device) }
 {
     if is_earlier(beginning) {
@@ -125,7 +140,7 @@ fn check_beginning(size: u64, beginning: &[u8]) -> Result<(), IndexFault>
             offset: 0,
         });
     }
-    if !has_room(size, 0) {
+    if size < ENDS_LEN {
         return Err(IndexFault {
             kind: IndexFaultKind::Truncated,
             offset: size.saturating_sub(END_LEN),
@@ -136,7 +151,7 @@ fn check_beginning(size: u64, beginning: &[u8]) -> Result<(), IndexFault>
 
 /// Reads the magic, and returns the size of the text: it has room for an end record at least.
 fn read_beginning<P: Placed>(heap: Heap, device: &mut P) -> Result<u64, IndexFault>
-    ensures room { IfOk result (λ size. 49 ≤ size) }
+    ensures room { IfOk result (λ size. 65 ≤ size) }
     ensures read { ReadsText P.whole P.failures device.old device.new result
         HasBeginning FailsInBeginning }
 {
@@ -154,24 +169,26 @@ fn is_end(bytes: &[u8]) -> bool
     bytes[0] == END
 }
 
-/// The SHA-256 in an end record.
-fn digest_in(end: &[u8]) -> [u8; 32]
-    requires { length end.now ≡ 41 }
-    ensures { result ≡ drop 9 end.now }
+/// The root in an end record.
+fn root_in(end: &[u8]) -> [u8; 32]
+    requires { length end.now ≡ 57 }
+    ensures { result ≡ drop 25 end.now }
 {
-    let mut digest = [0; 32];
-    digest.copy_from_slice(&end[9..]);
-    digest
+    let mut root = [0; 32];
+    root.copy_from_slice(&end[25..]);
+    root
 }
 
 /// The ends of a text with this size and this end record.
 fn ends_in(size: u64, end: &[u8]) -> Result<Ends, IndexFault>
-    requires room { 49 ≤ size }
-    requires long { length end.now ≡ 41 }
-    ensures checked { (text : List ℕ) → HasBeginning text size → end.now ≡ drop (length text - 41) text
+    requires room { 65 ≤ size }
+    requires long { length end.now ≡ 57 }
+    ensures checked { (text : List ℕ) → HasBeginning text size → end.now ≡ drop (length text - 57) text
         → MatchResult result (AreEndsOf text) (FailsAtEnd text) }
     ensures faulty { IfErr result (λ fault. fault.kind ≢ Device) }
-    ensures fits { IfOk result (λ ends. ends.start + 122 * ends.count + 41 ≡ size) }
+    ensures short { IfOk result (λ ends. ends.archive_len < 2 ^ 64) }
+    ensures retired { IfOk result (λ ends. ends.retired ≤ ends.count) }
+    ensures fits { IfOk result (λ ends. ends.first + 122 * ends.count + 57 ≡ size) }
 {
     let offset = size - END_LEN;
     if !is_end(end) {
@@ -181,23 +198,33 @@ fn ends_in(size: u64, end: &[u8]) -> Result<Ends, IndexFault>
         });
     }
     let count = number_at(end, 1);
-    if !has_room(size, count) {
+    let retired = number_at(end, 9);
+    if !fit(size, count, retired) {
         return Err(IndexFault {
             kind: IndexFaultKind::BadCount,
             offset,
         });
     }
+    let len = ENTRY_LEN as u64 * count;
+    let first = offset - len;
+    let archive_len = number_at(end, 17);
+    let root = root_in(end);
     Ok(Ends {
-        start: offset - ENTRY_LEN as u64 * count,
+        start: first - digests_len(len),
+        first,
         count,
-        digest: digest_in(end),
+        retired,
+        archive_len,
+        root,
     })
 }
 
 /// Reads the end record of a text with this size.
 fn read_end<P: Placed>(heap: Heap, device: &mut P, size: u64) -> Result<Ends, IndexFault>
-    requires { 49 ≤ size }
-    ensures fits { IfOk result (λ ends. ends.start + 122 * ends.count + 41 ≡ size) }
+    requires { 65 ≤ size }
+    ensures short { IfOk result (λ ends. ends.archive_len < 2 ^ 64) }
+    ensures retired { IfOk result (λ ends. ends.retired ≤ ends.count) }
+    ensures fits { IfOk result (λ ends. ends.first + 122 * ends.count + 57 ≡ size) }
     ensures read { ReadsText P.whole P.failures device.old device.new result
         (λ text ends. HasBeginning text size → AreEndsOf text ends)
         (λ text fault. HasBeginning text size → IsRefused FailsAtEnd text fault) }
@@ -208,7 +235,9 @@ fn read_end<P: Placed>(heap: Heap, device: &mut P, size: u64) -> Result<Ends, In
 
 /// Reads the magic and the end record.
 pub(crate) fn read_ends<P: Placed>(heap: Heap, device: &mut P) -> Result<Ends, IndexFault>
-    ensures fits { IfOk result (λ ends. ends.start + 122 * ends.count + 41 < 2 ^ 64) }
+    ensures short { IfOk result (λ ends. ends.archive_len < 2 ^ 64) }
+    ensures retired { IfOk result (λ ends. ends.retired ≤ ends.count) }
+    ensures fits { IfOk result (λ ends. ends.first + 122 * ends.count + 57 < 2 ^ 64) }
     ensures read { ReadsText P.whole P.failures device.old device.new result AreEndsOf FailsInEnds }
 {
     let size = read_beginning(heap.share(), device)?;

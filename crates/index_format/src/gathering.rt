@@ -1,6 +1,6 @@
 //! The operations of the entries with a prefix.
 
-ghost use Rattle.std.specs.Prelude.{◌≤◌, length, map};
+ghost use Rattle.std.specs.Prelude.{◌≡◌, ◌≤◌, ◌<◌, length, map};
 ghost use Rattle.archive_core.specs.Part.{is_under};
 ghost use Rattle.archive_core.specs.Record.{record_bytes};
 ghost use Rattle.byte_device.specs.Devices.{FailsWithin};
@@ -8,14 +8,15 @@ ghost use Rattle.byte_device.specs.Places.{HasSize};
 ghost use Rattle.index_format.specs.Entry.{IsPlacedEntry, placed_bytes};
 ghost use Rattle.index_format.specs.Index.{AreIndexed};
 ghost use Rattle.index_format.specs.Places.{FailsAmong, FailsUnder};
-ghost use Rattle.index_format.specs.InnerGathering.{AreGathered, FailsOf, IsGathered, IsStaleAmong, IsUnnamed};
+ghost use Rattle.index_format.specs.InnerGathering.{AreGathered, FailsOf, IsGathered, IsStaleAmong};
+ghost use Rattle.index_format.specs.InnerGathering.{IsUnnamed, numbered_fault};
 ghost use Rattle.index_format.specs.Runs.{is_tagged};
 ghost use Rattle.index_format.specs.Gathering.{AreGatheredUnder, IsEntryFault, ReadsPlaces};
-ghost use Rattle.index_format.specs.Text.{placed_of};
+ghost use Rattle.index_format.specs.Text.{placed_in};
 
 use crate::records::operation_at;
 use crate::runs::run_under;
-use crate::{Index, IndexEntry, PlaceFault};
+use crate::{IndexEntry, IndexPart, PlaceFault};
 use archive_core::Operation;
 use archive_records::{ADMISSION, RETIREMENT};
 use byte_device::Placed;
@@ -95,9 +96,19 @@ fn gather_under<P: Placed>(
     gather_run(heap, gathered, ADMISSION, prefix, entries, archive, size)
 }
 
+/// The fault of gathering by a part of an index, whose entries have these numbers.
+fn numbered_fault(numbers: &[u64], fault: PlaceFault) -> PlaceFault
+    ensures { result ≡ numbered_fault numbers.now fault }
+{
+    match fault {
+        PlaceFault::Stale(Some(at)) => PlaceFault::Stale(numbers.get(at as usize).copied()),
+        told => told,
+    }
+}
+
 /// Gathers the records with a UUID or a key at the offsets in an index, and appends them to those that were gathered:
 /// each admission is tested like a record of an archive, and its slice is hashed and compared with its entry. The
-/// entries are found by binary search, and no other is read. After a failure, some of the records may have been
+/// entries are found by binary search, and no other is used. After a failure, some of the records may have been
 /// gathered.
 ///
 /// # Errors
@@ -108,18 +119,23 @@ pub fn gather_at<P: Placed>(
     heap: &Heap,
     gathered: &mut Vec<Operation, Heap>,
     prefix: &[u8],
-    index: &Index,
+    part: &IndexPart,
     archive: &mut P,
     size: u64,
 ) -> Result<(), PlaceFault>
+    requires some { 0 < length prefix.now }
     requires prefix { length prefix.now ≤ 24 }
     requires size { HasSize (P.whole archive.old) size }
     ensures { ReadsPlaces P.whole P.failures archive.old archive.new result
-        (λ _. AreGatheredUnder (P.whole archive.old) prefix.now (placed_of index.now)
-        (map record_bytes gathered.old.items)
-        (map record_bytes gathered.new.items)) (IsEntryFault prefix.now (placed_of index.now))
+        (λ _. AreGatheredUnder (P.whole archive.old) prefix.now (placed_in part.now)
+        (map record_bytes gathered.old.items) (map record_bytes gathered.new.items))
+        (IsEntryFault prefix.now (placed_in part.now))
         (FailsUnder (FailsWithin P.whole P.failures P.unread archive.old archive.new) prefix.now
-        (placed_of index.now)) }
+        (placed_in part.now)) }
 {
-    gather_under(heap, gathered, prefix, index.entries(), archive, size)
+    let (numbers, entries) = part.parts();
+    match gather_under(heap, gathered, prefix, entries, archive, size) {
+        Ok(()) => Ok(()),
+        Err(fault) => Err(numbered_fault(numbers, fault)),
+    }
 }

@@ -1,14 +1,13 @@
 //! The entries of an index that was read.
 
 ghost use Rattle.std.specs.Prelude.{◌≡◌, ◌+◌, All, length, map};
-ghost use Rattle.std.specs.List.{sum_by};
 ghost use Rattle.join_core.specs.Listing.{listing};
-ghost use Rattle.index_format.specs.Entry.{AreOrderedEntries, HasItsFields, entry_bytes, length_in, placed_bytes};
+ghost use Rattle.index_format.specs.Entry.{AreOrderedEntries, HasItsFields, entry_bytes, placed_bytes};
 ghost use Rattle.index_format.specs.Index.{AreIndexEntries, AreIndexed, lengths_of};
 ghost use Rattle.index_format.specs.Text.{placed_of};
 
 use crate::IndexEntry;
-use archive_records::{END_LEN, MAGIC_LEN};
+use crate::numbers::archive_len;
 use heap_memory::Heap;
 use std::marker::Model;
 
@@ -27,18 +26,6 @@ impl Model for Index {
     ghost view = { λ index. map entry_bytes index.entries.items };
 
     ghost invariant = { λ index. AreOrderedEntries index.entries.items };
-}
-
-/// The sum of the lengths of the magic, the records in the entries and the end record, in bytes.
-fn framed_size(entries: &[IndexEntry]) -> u128
-    requires { All HasItsFields entries.now }
-    ensures { result ≡ 17 + sum_by length_in (map entry_bytes entries.now) }
-{
-    let mut size = MAGIC_LEN + END_LEN as u128;
-    'adding: for entry in entries {
-        size += u128::from(entry.length);
-    }
-    size
 }
 
 impl Index {
@@ -69,9 +56,9 @@ impl Index {
     }
 
     /// The size in bytes of an archive with the records in the entries: the magic, the records and the end record.
-    pub(crate) fn archive_size(&self) -> u128
+    pub fn archive_size(&self) -> u128
         ensures { result ≡ 17 + lengths_of (placed_of self.now) }
     {
-        framed_size(&self.entries)
+        archive_len(&self.entries)
     }
 }

@@ -12,13 +12,14 @@ ghost use Rattle.index_format.specs.Fault.{IsIndexFault};
 ghost use Rattle.index_format.specs.Index.{index};
 ghost use Rattle.index_format.specs.Places.{AreNamed, HasIndexedLength, TellsFound};
 ghost use Rattle.index_format.specs.Text.{IsIndexText};
+ghost use Rattle.index_format.specs.Tree.{AreReadUnder, MayHaveEntries};
 ghost use Rattle.index_format.specs.declared.index_fault.IndexFault.{IndexFault};
 
 /// With the index of the archive with this text, the records that are named with a UUID or a key are those of the
 /// content. Nothing is assumed about SHA-256.
 pub fn index_answers_right()
     ensures { (front : List ℕ) (o p : Operations) → length front ≤ 24 → IsContent o → length (written o) < 2 ^ 64
-        → AreNamed front (index o) (written o) p → p ≡ part o (is_under front) }
+        → AreNamed front (listing (index o)) (written o) p → p ≡ part o (is_under front) }
 {}
 
 /// For any bytes, the records that the index of a content names are those of the content, unless a slice that was found
@@ -26,7 +27,8 @@ pub fn index_answers_right()
 /// the indexed content, or there is none.
 pub fn answers_are_of_the_index()
     ensures { (front text : List ℕ) (o p : Operations) → length front ≤ 24 → IsContent o
-        → (named : AreNamed front (index o) text p) → TellsFound o named.records → p ≡ part o (is_under front) }
+        → (named : AreNamed front (listing (index o)) text p) → TellsFound o named.records
+        → p ≡ part o (is_under front) }
 {}
 
 /// The archive of an index has the length that the index implies.
@@ -48,4 +50,15 @@ pub fn one_index_fault()
         → IsIndexFault text f → ⊥ }
     ensures alone { (text : List ℕ) (entries others : List (List ℕ)) → IsIndexText text entries
         → IsIndexText text others → entries ≡ others }
+{}
+
+/// An index may have its entries: nothing is assumed about SHA-256.
+pub fn index_may_have()
+    ensures { (text : List ℕ) (entries : List (List ℕ)) → IsIndexText text entries → MayHaveEntries text entries }
+{}
+
+/// Two lists of entries that were read of one text under the same UUIDs are one, if it may have any entries.
+pub fn one_part()
+    ensures { (uuids : List (List ℕ)) (text : List ℕ) (entries some other : List (List ℕ))
+        → MayHaveEntries text entries → AreReadUnder uuids text some → AreReadUnder uuids text other → some ≡ other }
 {}

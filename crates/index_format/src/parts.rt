@@ -1,17 +1,15 @@
 //! The records with a UUID or a key.
 
-ghost use Rattle.std.specs.Prelude.{◌≡◌, ◌<◌, length, map, IfOk, IfSome, OnOk};
+ghost use Rattle.std.specs.Prelude.{◌≡◌, ◌<◌, length, map, IfOk, OnOk};
 ghost use Rattle.std.specs.FinSet as set;
 ghost use Rattle.archive_core.specs.Content.{content_of, with_records};
 ghost use Rattle.archive_core.specs.Part.{is_under};
 ghost use Rattle.archive_core.specs.Record.{record_bytes};
 ghost use Rattle.byte_device.specs.Places.{HasSize};
 ghost use Rattle.index_format.specs.Entry.{placed_bytes};
-ghost use Rattle.index_format.specs.Places.{HasIndexedLength};
-ghost use Rattle.index_format.specs.Gathering.{IsLengthFault, ReadsPlaces};
-ghost use Rattle.index_format.specs.Text.{placed_of};
+ghost use Rattle.index_format.specs.Gathering.{IsSizeFault, ReadsPlaces};
 
-use crate::{Index, IndexEntry, PlaceFault};
+use crate::{IndexEntry, PlaceFault};
 use archive_core::{Archive, Operation};
 use byte_device::Placed;
 use heap_memory::{Heap, NoMemory};
@@ -31,23 +29,21 @@ fn begins(bytes: &[u8], prefix: &[u8]) -> bool
     bytes[1..].starts_with(prefix)
 }
 
-/// The size of an archive, if the index implies the same. No byte of the archive is read.
+/// The size of an archive, if it is this one. No byte of the archive is read.
 ///
 /// # Errors
 ///
 /// `Stale` if the archive has another length; `Device` at 0.
-pub fn indexed_size<P: Placed>(index: &Index, archive: &mut P) -> Result<u64, PlaceFault>
+pub fn indexed_size<P: Placed>(size: u128, archive: &mut P) -> Result<u64, PlaceFault>
     ensures { ReadsPlaces P.whole P.failures archive.old archive.new result
-        (λ size. HasSize (P.whole archive.old) size
-        × IfSome (P.whole archive.old) (HasIndexedLength (placed_of index.now)))
-        (IsLengthFault (placed_of index.now)) (λ offset. (offset ≡ 0) × P.unmeasured archive.old archive.new) }
+        (λ found. (found ≡ size) × HasSize (P.whole archive.old) found) (IsSizeFault size)
+        (λ offset. (offset ≡ 0) × P.unmeasured archive.old archive.new) }
 {
-    let told = index.archive_size();
-    let Ok(size) = archive.size() else {
+    let Ok(found) = archive.size() else {
         return Err(PlaceFault::Device(0));
     };
-    if u128::from(size) == told {
-        Ok(size)
+    if u128::from(found) == size {
+        Ok(found)
     } else {
         Err(PlaceFault::Stale(None))
     }

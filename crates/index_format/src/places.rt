@@ -9,19 +9,8 @@ ghost use Rattle.index_format.specs.Text.{AreLaid, FollowOn, PassChecks};
 use crate::IndexEntry;
 use crate::checking::stored_size;
 use crate::ends::MAGIC_LEN;
-use archive_core::FindState;
+use crate::numbers::is_admission;
 use heap_memory::{Heap, NoMemory};
-
-/// Whether an entry is that of an admission.
-#[tactic(auto, unfolding(crate::specs::Entry::entry_bytes, crate::specs::Entry::placed_bytes))]
-fn is_admission(entry: &IndexEntry) -> bool
-    ensures { result ≡ is_admission (entry_bytes entry.now) }
-{
-    match entry.row.state {
-        FindState::Retired => false,
-        FindState::Image | FindState::Dsym => true,
-    }
-}
 
 /// Whether a record is at this offset of the archive, and its table, if it has one, at that offset of the index.
 fn follows(entry: &IndexEntry, offset: u128, at: u128) -> bool

@@ -8,6 +8,7 @@ pub mod Together
 pub mod Asked
 pub mod EachTold
 pub mod RunLemmas
+pub mod PartLemmas
 pub mod NamedSlices
 pub mod OpenedLines
 mod HeadedEntries

@@ -1,97 +1,84 @@
--- Entries of one tag under a key, which stand together.
-use Rattle.std.proofs.Common.{◌≡◌, ℕ, ◌+◌, ◌-◌, ◌<◌, ◌≤◌, Bool, true, false, not, ◌&&◌, List, [], ◌∷◌, ◌++◌, length}
-use Rattle.std.proofs.Common.{map, take, drop, get_or, sym, ap, ◌∙◌, arith, subst}
-use Rattle.std.specs.Prelude.{All, filter}
-use Rattle.std.specs.List.{AllWithin}
-use Rattle.std.proofs.lemmas.List.{get_or-drop, get_or-take, length-map, take_all}
-use Rattle.index_format.specs.Runs.{IsRun}
-use Rattle.index_format.proofs.RunLemmas.{past, length_run}
-use Rattle.index_format.specs.Entry.{HasItsFields, entry_bytes}
-use Rattle.index_format.specs.declared.entry.IndexEntry.{IndexEntry}
-use Rattle.index_lookup.specs.Among.{EntryAt}
+-- Entries of one tag under a key, with their numbers.
+use Rattle.std.proofs.Common.{◌≡◌, ℕ, zero, suc, ◌+◌, ◌<◌, Bool, true, false, cond, not, List, [], ◌∷◌, ◌++◌, length}
+use Rattle.std.proofs.Common.{map, take, get_or, refl, sym, ap, ◌∙◌, arith}
+use Rattle.std.specs.Prelude.{filter}
+use Rattle.std.specs.List.{enumerate_from, zip}
+use Rattle.archive_core.proofs.Made.{by_test}
+use Rattle.index_format.specs.Spread.{AreNumbered}
+use Rattle.std.proofs.lemmas.List.{map_more}
+use Rattle.index_lookup.specs.Among.{EntryAt, subject_of}
 use Rattle.index_lookup.specs.Told.{admits_under}
 use Rattle.index_lookup.specs.InnerAnswering.{entries_at, is_retired, lives_by}
-use Rattle.index_lookup.proofs.Entries.{at, get_or-entries_at, length-entries_at}
-use Rattle.index_lookup.proofs.Lists.{filter_passed, filter_pushed, read_map}
+use Rattle.index_lookup.proofs.Entries.{at}
+use Rattle.index_lookup.proofs.Lists.{filter_passed, filter_pushed, filter_twice}
 
--- a run of a list is one of the same list
-pub along_index : (passes : List ℕ → Bool) (es fs : List (List ℕ)) (start stop : ℕ) → es ≡ fs → IsRun passes es start stop → IsRun passes fs start stop
-along_index passes es fs start stop same run = subst (λ (xs : List (List ℕ)). IsRun passes xs start stop) same run
+module _ (input : ℕ) where
+  -- a numbered entry in the index
+  abbrev numbered : ℕ × List ℕ → EntryAt
+  numbered x = at input x.0 x.1
 
--- an entry of a run, among all
-pub record IsInRun (passes : List ℕ → Bool) (xs : List IndexEntry) (es : List (List ℕ)) (place : ℕ) (e : IndexEntry) : Type 0 where
-  pub within : place < length es
-  pub is : entry_bytes e ≡ get_or es place (entry_bytes e)
-  pub passes_is : passes (entry_bytes e) ≡ true
-  pub fields : All HasItsFields xs → HasItsFields e
+  -- entries with these numbers in the index
+  abbrev pub placed_at : List ℕ → List (List ℕ) → List EntryAt
+  placed_at ns es = map numbered (zip ns es)
 
-module _ (xs : List IndexEntry) (es : List (List ℕ)) (are : map entry_bytes xs ≡ es) (passes : List ℕ → Bool)
-    (start stop : ℕ) (run : IsRun passes es start stop) where
-  as_many : length xs ≡ length es
-  as_many = sym (length-map xs entry_bytes) ∙ ap length are
+  pub length-placed_at : (ns : List ℕ) (es : List (List ℕ)) → length ns ≡ length es → length (placed_at ns es) ≡ length es
+  length-placed_at [] [] long = refl
+  length-placed_at [] (e ∷ es) long = absurd (omega (arith, long))
+  length-placed_at (n ∷ ns) [] long = absurd (omega (arith, long))
+  length-placed_at (n ∷ ns) (e ∷ es) long = ap suc (length-placed_at ns es (omega (arith, long)))
 
-  pub run_length : length (take (stop - start) (drop start xs)) ≡ stop - start
-  run_length = length_run xs start stop run.ordered (omega (arith, as_many, run.within))
+  -- one of them
+  pub placed_read : (ns : List ℕ) (es : List (List ℕ)) (i n : ℕ) (e : List ℕ) → length ns ≡ length es → i < length es → n ≡ get_or ns i n
+      → e ≡ get_or es i e → at input n e ≡ get_or (placed_at ns es) i (at input n e)
+  placed_read ns [] i n e long lt n_is e_is = absurd (omega (arith, lt))
+  placed_read [] (y ∷ es) i n e long lt n_is e_is = absurd (omega (arith, long))
+  placed_read (x ∷ ns) (y ∷ es) zero n e long lt n_is e_is = λ k. at input (n_is k) (e_is k)
+  placed_read (x ∷ ns) (y ∷ es) (suc i) n e long lt n_is e_is = placed_read ns es i n e (omega (arith, long)) (omega (arith, lt)) n_is e_is
 
-  pub in_run : (i : ℕ) (e : IndexEntry) → i < length (take (stop - start) (drop start xs)) → e
-      ≡ get_or (take (stop - start) (drop start xs)) i e → IsInRun passes xs es (start + i) e
-  in_run i e lt is =
-      let inside : i < stop - start = omega (arith, run_length, lt) in
-      let within : start + i < length xs = omega (arith, as_many, inside, run.within) in
-      let there : e ≡ get_or xs (start + i) e = is ∙ get_or-take (stop - start) (drop start xs) i e inside ∙ get_or-drop start xs i e in
-      let bytes : entry_bytes e ≡ get_or es (start + i) (entry_bytes e) =
-      read_map entry_bytes xs (start + i) e within there
-      ∙ ap (λ (zs : List (List ℕ)). get_or zs (start + i) (entry_bytes e)) are in
-      record {
-        within = omega (arith, within, as_many);
-        is = bytes;
-        passes_is = ap passes bytes ∙ run.inside (start + i) (entry_bytes e) (omega arith) (omega (arith, inside));
-        fields = λ all. rw there (all (start + i) e within);
-      }
+  enumerated : (n : ℕ) (es : List (List ℕ)) → map numbered (enumerate_from n es) ≡ entries_at input n es
+  enumerated n [] = refl
+  enumerated n (e ∷ es) = ap (λ (zs : List EntryAt). at input n e ∷ zs) (enumerated (n + 1) es)
 
--- ---- what lives
+  passing : (p : List ℕ → Bool) (xs : List (ℕ × List ℕ)) → map numbered (filter (λ x. p x.1) xs) ≡ filter (λ x. p x.entry) (map numbered xs)
+  passing p [] = refl
+  passing p (x ∷ xs) = by_test _ (p x.1)
+      (λ yes.
+      ap (λ (b : Bool). map numbered (cond b (x ∷ filter (λ y. p y.1) xs) (filter (λ y. p y.1) xs))) yes
+      ∙ ap (λ (zs : List EntryAt). numbered x ∷ zs) (passing p xs)
+      ∙ sym (ap (λ (b : Bool). cond b (numbered x ∷ filter (λ y. p y.entry) (map numbered xs)) (filter (λ y. p y.entry) (map numbered xs))) yes))
+      (λ no.
+      ap (λ (b : Bool). map numbered (cond b (x ∷ filter (λ y. p y.1) xs) (filter (λ y. p y.1) xs))) no
+      ∙ passing p xs
+      ∙ sym (ap (λ (b : Bool). cond b (numbered x ∷ filter (λ y. p y.entry) (map numbered xs)) (filter (λ y. p y.entry) (map numbered xs))) no))
 
-module _ (prefix : List ℕ) (retired : List (List ℕ)) (input : ℕ) (es : List (List ℕ)) where
-  abbrev lives : EntryAt → Bool
-  lives x = lives_by prefix retired x.entry
+  -- those that pass, with their numbers, are the entries of the index that pass
+  numbered_at : (passes : List ℕ → Bool) (all : List (List ℕ)) (ns : List ℕ) (es : List (List ℕ)) → AreNumbered passes all ns es
+      → placed_at ns es ≡ filter (λ x. passes x.entry) (entries_at input 0 all)
+  numbered_at passes all ns es are =
+      ap (map numbered) are.are ∙ passing passes (enumerate_from 0 all) ∙ ap (filter (λ x. passes x.entry)) (enumerated 0 all)
 
-  abbrev zs : List EntryAt
-  zs = entries_at input 0 es
+  -- the admissions under a prefix that are not retired live
+  pub lives_of : (prefix : List ℕ) (retired all : List (List ℕ)) (ns : List ℕ) (es : List (List ℕ)) → AreNumbered (admits_under prefix) all ns es
+      → filter (λ x. not (is_retired retired x.entry)) (placed_at ns es) ≡ filter (λ x. lives_by prefix retired x.entry) (entries_at input 0 all)
+  lives_of prefix retired all ns es are =
+      ap (filter (λ x. not (is_retired retired x.entry))) (numbered_at (admits_under prefix) all ns es are)
+      ∙ filter_twice (λ x. admits_under prefix x.entry) (λ x. not (is_retired retired x.entry)) (entries_at input 0 all)
 
-  -- none lives that is no admission here
-  pub none_live : (low high : ℕ) → low ≤ high → high ≤ length es
-      → AllWithin (λ e. admits_under prefix e ≡ false) es low high → filter lives (take high zs)
-      ≡ filter lives (take low zs)
-  none_live low high le within none =
-      past lives zs low high le (λ k d a lt.
-      ap lives (get_or-entries_at input 0 es k d [] (omega (arith, within, lt)))
-      ∙ ap (λ (b : Bool). b && not (is_retired retired (get_or es k []))) (none k [] a lt))
+  module _ (retired : List (List ℕ)) (ns : List ℕ) (es : List (List ℕ)) (i n : ℕ) (e : List ℕ) (gone : Bool) (long : length ns ≡ length es)
+      (lt : i < length es) (n_is : n ≡ get_or ns i n) (e_is : e ≡ get_or es i e) (gone_is : gone ≡ is_retired retired e) where
+    abbrev lives : EntryAt → Bool
+    lives x = not (is_retired retired x.entry)
 
-  pub rest_dead : (stop : ℕ) → stop ≤ length es → AllWithin (λ e. admits_under prefix e ≡ false) es stop (length es)
-      → filter lives (take stop zs) ≡ filter lives zs
-  rest_dead stop le none = sym (none_live stop (length es) le (omega arith) none)
-      ∙ ap (filter lives) (take_all (length es) zs (omega (arith, length-entries_at input 0 es)))
+    there : i < length (placed_at ns es)
+    there = omega (arith, lt, length-placed_at ns es long)
 
-  -- an admission here lives where it is not retired
-  module _ (start i : ℕ) (e : List ℕ) (gone : Bool) (lt : start + i < length es) (is : e ≡ get_or es (start + i) e)
-      (admits : admits_under prefix e ≡ true) (gone_is : gone ≡ is_retired retired e) where
-    lives_here : lives_by prefix retired e ≡ not gone
-    lives_here = (λ j. admits j && not (is_retired retired e)) ∙ ap not (sym gone_is)
+    pub passed_by : gone ≡ true → filter lives (take (i + 1) (placed_at ns es)) ≡ filter lives (take i (placed_at ns es))
+    passed_by so = filter_passed lives (placed_at ns es) i (at input n e) there (placed_read ns es i n e long lt n_is e_is) (ap not (sym gone_is ∙ so))
 
-    within : start + i < length zs
-    within = omega (arith, lt, length-entries_at input 0 es)
+    pub picked : gone ≡ false → filter lives (take (i + 1) (placed_at ns es)) ≡ filter lives (take i (placed_at ns es)) ++ at input n e ∷ []
+    picked so = filter_pushed lives (placed_at ns es) i (at input n e) there (placed_read ns es i n e long lt n_is e_is) (ap not (sym gone_is ∙ so))
 
-    this : at input (start + i) e ≡ get_or zs (start + i) (at input (start + i) e)
-    this =
-        let same : start + i ≡ 0 + (start + i) = omega arith in
-        (λ j. at input (same j) (is j)) ∙ sym (get_or-entries_at input 0 es (start + i) (at input (start + i) e) e lt)
-
-    next : start + (i + 1) ≡ start + i + 1
-    next = omega arith
-
-    pub passed_by : gone ≡ true → filter lives (take (start + (i + 1)) zs) ≡ filter lives (take (start + i) zs)
-    passed_by so = ap (λ (n : ℕ). filter lives (take n zs)) next
-        ∙ filter_passed lives zs (start + i) (at input (start + i) e) within this (lives_here ∙ ap not so)
-
-    pub picked : gone ≡ false → filter lives (take (start + (i + 1)) zs) ≡ filter lives (take (start + i) zs) ++ at input (start + i) e ∷ []
-    picked so = ap (λ (n : ℕ). filter lives (take n zs)) next ∙ filter_pushed lives zs (start + i) (at input (start + i) e) within this (lives_here ∙ ap not so)
+-- one retirement more
+pub subjects_pushed : (es : List (List ℕ)) (i : ℕ) (e : List ℕ) → i < length es → e ≡ get_or es i e
+    → map subject_of (take (i + 1) es) ≡ map subject_of (take i es) ++ subject_of e ∷ []
+subjects_pushed es i e lt is = map_more subject_of es i e lt ∙ ap (λ (x : List ℕ). map subject_of (take i es) ++ subject_of x ∷ []) (sym is)

@@ -15,7 +15,7 @@ use Rattle.table_symbols.specs.Opened.{IsOpened, IsOpenedIn}
 use Rattle.table_symbols.specs.Steps.{AreBytes}
 use Rattle.table_symbols.specs.Table.{FitsTable, IsTableOf, TableParts, table_bytes}
 use Rattle.table_symbols.specs.declared.table.Table.{Table}
-use Rattle.table_source_frames.specs.OfBytes.{AreFramesIn, AreStoredFrames}
+use Rattle.table_source_frames.specs.OfBytes.{AreFramesIn, AreFramesOfStep}
 use Rattle.table_source_frames.specs.Opened.{IsOpened as AreLinesOpened}
 use Rattle.table_source_frames.specs.Steps.{AreFrameSteps, StepRecord}
 use Rattle.table_source_frames.specs.declared.table.LineTable.{LineTable}
@@ -101,12 +101,12 @@ IsBaseBy text claim base = (slice table : List ℕ) → AreBytes slice → IsSli
     → MayBeStored text claim table → base ≡ text_base_of slice
 
 -- The frames in an opened line table for an address, for a slice with this vmaddr; for any bytes, they are those of a
--- location.
+-- step.
 pub record AreFramesOpened (table : LineTable) (pages : Pages) (base : Option ℕ) (text : List ℕ) (asked : Where)
     (frames : List FrameRecord) : Type 0 where
-  pub of_slice : (slice all : List ℕ) (steps : List StepRecord) → AreFrameSteps slice steps → base ≡ text_base_of slice
-      → AreLinesOpened table pages text all steps → AreFramesOfPlace asked slice frames
-  pub of_bytes : (all : List ℕ) → ArePagesOf pages text all → (location : ℕ) × AreStoredFrames table all location frames
+  pub of_slice : (slice all strings : List ℕ) (steps : List StepRecord) → AreFrameSteps slice steps → base ≡ text_base_of slice
+      → AreLinesOpened table pages text all strings steps → AreFramesOfPlace asked slice frames
+  pub of_bytes : (all : List ℕ) → ArePagesOf pages text all → AreFramesOfStep table all frames
 
 -- The frames in a table for an address, for any bytes of the index and a slice with this vmaddr; and for any bytes.
 pub record AreFramesBased (base : Option ℕ) (text : List ℕ) (claim : Claim) (asked : Where) (frames : List FrameRecord)

@@ -9,7 +9,7 @@ use crate::numbered::Numbered;
 use crate::order::{are_tied, keep_first_index, sort_by_rank};
 use archive_core::{SliceKey, key_prefix};
 use heap_memory::{Heap, NoMemory};
-use index_format::Index;
+use index_format::IndexPart;
 use std::marker::Model;
 
 /// Entries of several indexes that answer together, in the order of their records. A contract sees each with the number
@@ -57,7 +57,7 @@ impl Answering {
 pub fn answering_entries(
     heap: &Heap,
     key: &SliceKey,
-    indexes: &[Index],
+    indexes: &[IndexPart],
 ) -> Result<Option<Answering>, NoMemory>
     ensures { IfOk result (λ found. MatchOption found (AreTied (key_bytes key.now) indexes.now)
         (λ answering. AreAnsweringAmong (key_bytes key.now) indexes.now answering)) }

@@ -1,16 +1,18 @@
 //! Laws about the answers of entries for several addresses and for each, and about the bytes stored for entries that
 //! answer. Each law is the contract of a function that does nothing.
 
-ghost use Rattle.std.specs.Prelude.{◌≡◌, ◌<◌, ℕ, Bool, Contains, List, []};
-ghost use Rattle.std.specs.Prelude.{Some, length, map, slice_get, slice_index_or};
+ghost use Rattle.std.specs.Prelude.{◌≡◌, ◌<◌, ◌≤◌, ℕ, Bool, true, Contains, List, [], Some, length, map, slice_get};
+ghost use Rattle.std.specs.Prelude.{slice_index_or};
 ghost use Rattle.std.specs.List.{AllZip};
 ghost use Rattle.table_checked_pages.specs.Pages.{AreStored};
 ghost use Rattle.dwarf_source_frames.specs.Frames.{FrameRecord};
 ghost use Rattle.table_symbols.specs.Opened.{AreHeaded};
 ghost use Rattle.archive_core.specs.Lookup.{AnswerRecord};
 ghost use Rattle.archive_core.specs.declared.lookup.Where.{Where};
+ghost use Rattle.archive_core.specs.Part.{is_under};
 ghost use Rattle.index_format.specs.Entry.{claim_in};
-ghost use Rattle.index_lookup.specs.Among.{AreAnsweringAmong, EntryAt};
+ghost use Rattle.index_format.specs.Paged.{only};
+ghost use Rattle.index_lookup.specs.Among.{AreAnsweringAmong, AreTied, EntryAt};
 ghost use Rattle.index_lookup.specs.AmongTold.{IsAnswerAmong, IsToldOfAmong};
 ghost use Rattle.index_lookup.specs.Views.{IsColumnAt, answer_of, row_at, shown_of};
 ghost use Rattle.index_lookup.specs.declared.answers.EntryAnswers.{EntryAnswers};
@@ -41,4 +43,16 @@ pub fn headed_among()
         (asked : Where) (answer : AnswerRecord) (frames : List (List FrameRecord)) (x : EntryAt) (text : List ℕ)
         (is : IsAnswerAmong texts indexes prefix lines asked answer frames) → Contains is.answering x
         → slice_get texts x.input ≡ Some text → AreStored text (claim_in x.entry) [] → ⊥ }
+{}
+
+/// What answers under a key among entries of which only some are there, of the others no bytes, answers among all, if
+/// all under the key are there; and so it is with entries that are tied.
+pub fn part_answers_alike()
+    ensures answering { (passes : List ℕ → Bool) (prefix : List ℕ) (indexes : List (List (List ℕ)))
+        (answering : List EntryAt) → length prefix ≤ 56
+        → ((e : List ℕ) → is_under prefix e ≡ true → passes e ≡ true)
+        → AreAnsweringAmong prefix (map (only passes) indexes) answering → AreAnsweringAmong prefix indexes answering }
+    ensures tied { (passes : List ℕ → Bool) (prefix : List ℕ) (indexes : List (List (List ℕ))) → length prefix ≤ 56
+        → ((e : List ℕ) → is_under prefix e ≡ true → passes e ≡ true)
+        → AreTied prefix (map (only passes) indexes) → AreTied prefix indexes }
 {}

@@ -33,8 +33,9 @@ fn frames_of<P: Placed>(
     ensures keeps { KeepsPages P.whole device.old pages.old pages.new }
     ensures read { ReadsStored P.whole P.failures device.old device.new result
         (λ text frames. AreFramesOpened table.now pages.old base text asked (owned_frames frames.items))
-        (λ text. (slice all : List ℕ) (steps : List StepRecord) → AreStored text (claim_view pages.old.claim) all
-        → AreFrameSteps slice steps → IsOpened table.now pages.old text all steps → ⊥) }
+        (λ text. (slice all strings : List ℕ) (steps : List StepRecord)
+        → AreStored text (claim_view pages.old.claim) all → AreFrameSteps slice steps
+        → IsOpened table.now pages.old text all strings steps → ⊥) }
 {
     match asked.address_by(base) {
         Some(address) => table.frames_at(heap, device, pages, address),
@@ -54,8 +55,9 @@ fn frames_of_each<P: Placed>(
     ensures { ReadsStored P.whole P.failures device.old device.new result
         (λ text lists. AllZip (AreFramesOpened table.now pages.old base text) asked.now
         (map list_in lists.items))
-        (λ text. (slice all : List ℕ) (steps : List StepRecord) → AreStored text (claim_view pages.old.claim) all
-        → AreFrameSteps slice steps → IsOpened table.now pages.old text all steps → ⊥) }
+        (λ text. (slice all strings : List ℕ) (steps : List StepRecord)
+        → AreStored text (claim_view pages.old.claim) all → AreFrameSteps slice steps
+        → IsOpened table.now pages.old text all strings steps → ⊥) }
 {
     let mut lists = Vec::new(heap.share());
     'asked: for place in asked {
@@ -84,8 +86,8 @@ fn frames_by_table<P: Placed>(
         (λ text. IsTableBy text (claim_view table.pages.claim) table → (slice all : List ℕ) → IsSliceTable slice all
         → AreStored text (claim_view table.pages.claim) all → ⊥) }
 {
-    let (mut pages, first) = table.into_lines();
-    let Some(lines) = LineTable::open(device, &mut pages, first)? else {
+    let (mut pages, strings, first) = table.into_lines();
+    let Some(lines) = LineTable::open(device, &mut pages, strings, first)? else {
         return Ok(None);
     };
     let lists = frames_of_each(heap, device, &mut pages, &lines, base, asked)?;

@@ -14,15 +14,15 @@ use crate::numbered::{Numbered, is_companion};
 use crate::retired::{is_retired, retired_under};
 use archive_records::ADMISSION;
 use heap_memory::{Heap, NoMemory};
-use index_format::{Index, run_under};
+use index_format::IndexPart;
 
 /// Adds the entries of the index with this number that are live with this prefix, in their order. Only its admissions
-/// with this prefix are read.
+/// with this prefix are used.
 fn gather(
     prefix: &[u8],
     retired: &[[u8; 56]],
     input: u64,
-    index: &Index,
+    index: &IndexPart,
     live: &mut Vec<Numbered, Heap>,
 ) -> Result<(), NoMemory>
     requires prefix { length prefix.now ≡ 24 }
@@ -30,16 +30,14 @@ fn gather(
     ensures { OnOk result (map entry_at live.new.items ≡ map entry_at live.old.items
         ++ filter (λ x. lives_by prefix.now retired.now x.entry) (entries_at input 0 index.now)) }
 {
-    let entries = index.entries();
-    let (start, stop) = run_under(entries, ADMISSION, prefix);
-    let run = &entries[start..stop];
-    'run: for (nth, entry) in run.iter().enumerate() {
+    let (numbers, entries) = index.run_under(ADMISSION, prefix);
+    'run: for (nth, entry) in entries.iter().enumerate() {
         if is_retired(retired, entry) {
             continue 'run;
         }
         live.push(Numbered {
             input,
-            number: (start + nth) as u64,
+            number: numbers[nth],
             entry: *entry,
         })?;
     }
@@ -51,7 +49,7 @@ fn live_besides(
     heap: Heap,
     prefix: &[u8],
     retired: &[[u8; 56]],
-    indexes: &[Index],
+    indexes: &[IndexPart],
 ) -> Result<Vec<Numbered, Heap>, NoMemory>
     requires prefix { length prefix.now ≡ 24 }
     requires sorted { IsSortedByKey (λ subject. subject) (slice_cmp nat_cmp) retired.now }
@@ -69,7 +67,7 @@ fn live_besides(
 pub(crate) fn live_under(
     heap: &Heap,
     prefix: &[u8],
-    indexes: &[Index],
+    indexes: &[IndexPart],
 ) -> Result<Vec<Numbered, Heap>, NoMemory>
     requires { length prefix.now ≡ 24 }
     ensures { IfOk result (λ live. map entry_at live.items
@@ -97,7 +95,7 @@ fn keep_companions(live: &mut Vec<Numbered, Heap>)
 pub(crate) fn answering_entries_under(
     heap: &Heap,
     prefix: &[u8],
-    indexes: &[Index],
+    indexes: &[IndexPart],
 ) -> Result<Vec<Numbered, Heap>, NoMemory>
     requires { length prefix.now ≡ 24 }
     ensures { IfOk result (λ found. map entry_at found.items

@@ -13,7 +13,7 @@ use crate::numbered::{Numbered, is_companion};
 use archive_core::{Digest, FindRow, FindState, SliceKey, key_prefix};
 use archive_records::{ADMISSION_HEAD_LEN, digest_in, key_in};
 use heap_memory::{Heap, NoMemory};
-use index_format::Index;
+use index_format::IndexPart;
 
 /// A slice that an entry of one of several indexes names.
 #[derive(Clone, Copy)]
@@ -80,7 +80,7 @@ fn named_by_each(heap: Heap, entries: &[Numbered]) -> Result<Vec<NamedSlice, Hea
 pub fn named_among(
     heap: &Heap,
     key: &SliceKey,
-    indexes: &[Index],
+    indexes: &[IndexPart],
 ) -> Result<Option<Vec<NamedSlice, Heap>>, NoMemory>
     ensures { IfOk result (λ found. MatchOption found (AreTied (key_bytes key.now) indexes.now)
         (λ named. NamesAmong (key_bytes key.now) indexes.now named.items)) }
@@ -116,7 +116,7 @@ pub fn named_with(
     heap: &Heap,
     key: &SliceKey,
     digest: &Digest,
-    indexes: &[Index],
+    indexes: &[IndexPart],
 ) -> Result<Option<NamedSlice>, NoMemory>
     ensures { IfOk result (λ found. MatchOption found
         ((x : EntryAt) → LivesAmong (key_bytes key.now) digest.now.0 indexes.now x → ⊥)

@@ -11,7 +11,7 @@ ghost use Rattle.index_lookup.specs.InnerAnswering.{is_retired, retired_of};
 use crate::numbered::subject_of;
 use archive_records::RETIREMENT;
 use heap_memory::{Heap, NoMemory};
-use index_format::{Index, IndexEntry, run_under};
+use index_format::{IndexEntry, IndexPart};
 use std::cmp::Ordering;
 
 /// Compares two keys with their digests.
@@ -21,22 +21,28 @@ fn compare(subject: &[u8; 56], other: &[u8; 56]) -> Ordering
     subject[..].cmp(&other[..])
 }
 
-/// Adds the keys and digests of an index's retirements with this prefix. No other entry of the index is read.
-fn gather(prefix: &[u8], index: &Index, retired: &mut Vec<[u8; 56], Heap>) -> Result<(), NoMemory>
+/// Adds the keys and digests of an index's retirements with this prefix. No other entry is used.
+fn gather(
+    prefix: &[u8],
+    index: &IndexPart,
+    retired: &mut Vec<[u8; 56], Heap>,
+) -> Result<(), NoMemory>
     requires { length prefix.now ≡ 24 }
     ensures { OnOk result (retired.new.items ≡ retired.old.items ++ retired_of prefix.now index.now) }
 {
-    let entries = index.entries();
-    let (start, stop) = run_under(entries, RETIREMENT, prefix);
-    let run = &entries[start..stop];
-    'run: for entry in run {
+    let (_, entries) = index.run_under(RETIREMENT, prefix);
+    'run: for entry in entries {
         retired.push(subject_of(entry))?;
     }
     Ok(())
 }
 
 /// The keys and digests of the retirements of several indexes with this prefix, in the order of their entries.
-fn gathered(heap: Heap, prefix: &[u8], indexes: &[Index]) -> Result<Vec<[u8; 56], Heap>, NoMemory>
+fn gathered(
+    heap: Heap,
+    prefix: &[u8],
+    indexes: &[IndexPart],
+) -> Result<Vec<[u8; 56], Heap>, NoMemory>
     requires { length prefix.now ≡ 24 }
     ensures { IfOk result (λ retired. retired.items ≡ retired_of prefix.now (all_of indexes.now)) }
 {
@@ -51,7 +57,7 @@ fn gathered(heap: Heap, prefix: &[u8], indexes: &[Index]) -> Result<Vec<[u8; 56]
 pub(crate) fn retired_under(
     heap: Heap,
     prefix: &[u8],
-    indexes: &[Index],
+    indexes: &[IndexPart],
 ) -> Result<Vec<[u8; 56], Heap>, NoMemory>
     requires { length prefix.now ≡ 24 }
     ensures same { IfOk result (λ retired.

@@ -1,54 +1,50 @@
 -- INDEX is that of a content; and with the indexes of these very archives nothing is refused but for a device.
-use Rattle.std.proofs.Common.{◌≡◌, ℕ, zero, suc, List, [], ◌∷◌, Some, subst, ◌+◌, Option, ◌++◌, length, map, take, refl, sym, ap, ◌∙◌, arith, ◌≢◌}
-use Rattle.std.proofs.Common.{true, get_or, None, inl, inr}
-use Rattle.std.specs.Prelude.{IfSome, slice_get, Contains}
-use Rattle.std.specs.List.{AllZip, AllByRecursion, list_any}
-use Rattle.std.proofs.lemmas.Option.{same_Some}
-use Rattle.command_given_indexes.specs.Together.{AllThree, IsKept, IsLater, IsRefusedAtPlaces, IsFirstRefusedByIndex, IsReadWith}
-use Rattle.std.specs.Cmp.{both_ways, tied_itself}
+use Rattle.std.proofs.Common.{◌≡◌, ◌≢◌, ℕ, zero, suc, ◌+◌, ◌<◌, Bool, true, List, [], ◌∷◌, length, take, get_or}
+use Rattle.std.proofs.Common.{Option, None, Some, refl, sym, ap, ◌∙◌, subst, arith, inl, inr}
+use Rattle.std.specs.Prelude.{IfSome, slice_get}
+use Rattle.std.specs.List.{AllByRecursion, AllZip, list_any}
+use Rattle.std.specs.Cmp.{tied_itself}
 use Rattle.std.specs.Cmp.Lexicographic.{nat_list_cmp_total}
 use Rattle.std.specs.FinSet as set
-use Rattle.std.specs.FinSet.{same_set}
-use Rattle.std.proofs.Math.Seq.{take-append_seam}
+use Rattle.std.specs.Ordering.{eq_by_cmp, is_eq}
+use Rattle.std.proofs.lemmas.List.{length-map}
+use Rattle.std.proofs.lemmas.List.Elements.{All-from_recursion}
+use Rattle.std.proofs.lemmas.List.Folds.{list_any_at}
+use Rattle.std.proofs.lemmas.Option.{same_Some}
 use Rattle.join_core.specs.Listing.{listing}
 use Rattle.join_core.proofs.Listing.{any_listing}
-use Rattle.table_checked_pages.specs.Pages.{stored}
-use Rattle.archive_core.specs.Content.{IsContent, Operations}
-use Rattle.archive_core.specs.Record.{IsRecord}
+use Rattle.archive_core.specs.Content.{Operations}
+use Rattle.archive_core.specs.Part.{is_under}
 use Rattle.archive_core.specs.Summary.{Entries}
-use Rattle.archive_core.proofs.Members.{in_map, in_order, to_map}
-use Rattle.archive_core.proofs.Made.{bytes_same}
-use Rattle.archive_records.proofs.Contents.{along, order}
-use Rattle.index_format.specs.Entry.{placed_entry}
-use Rattle.index_format.specs.Index.{index, placed_entries}
-use Rattle.index_format.proofs.Kept.{in_made}
-use Rattle.index_format.proofs.Placed.{entry_long}
-use Rattle.index_format.specs.Entry.{claim_bytes}
-use Rattle.index_format.specs.Text.{IsIndexText, placed_of}
-use Rattle.index_format.proofs.Faults.{one_list, no_fault}
-use Rattle.index_build.specs.Content.{IsTableOf, claim_of, entries_of, table_entries, table_entry}
-use Rattle.index_build.proofs.Accepted.{accepted}
-use Rattle.command_common.specs.Inputs.{Gives, IsGiven, Reader, reader, IsDeviceFault}
-use Rattle.laws_index.specs.Indexes.{IsIndexFile}
-use Rattle.laws_index.proofs.OfContent.{is_key_of}
-use Rattle.command_given_indexes.specs.Indexes.{HoldsIndex, HoldsTables, HasOtherLength, IsOfOtherLength, IsRefusedByIndex, IsUnreadAt, IsUnreadIndex}
-use Rattle.laws_index.specs.Contents.{HaveKeys, IsIndexGiven, AreOwnIndexes, IsOwnIndex}
-use Rattle.std.specs.Ordering.{eq_by_cmp, is_eq}
-use Rattle.std.proofs.lemmas.List.Folds.{list_any_at}
 use Rattle.archive_records.specs.Text.{written}
-use Rattle.archive_records.proofs.Puts.{length_written}
-use Rattle.index_format.specs.Places.{HasIndexedLength}
-use Rattle.index_format.proofs.Named.{named_there}
-use Rattle.index_format.proofs.Sums.{right_length}
+use Rattle.archive_records.proofs.Contents.{order}
+use Rattle.index_format.specs.Fault.{IsIndexFault}
+use Rattle.index_format.specs.Index.{index, lengths_of}
+use Rattle.index_format.specs.Paged.{kept, only}
+use Rattle.index_format.specs.Part.{IsPartFault, IsPartOf}
+use Rattle.index_format.specs.Places.{IsNamedBy}
+use Rattle.index_format.specs.Reading.{IsRefused}
+use Rattle.index_format.specs.Text.{IsIndexText, placed_in, placed_of}
+use Rattle.index_format.specs.Tree.{is_under_one}
 use Rattle.index_format.specs.declared.index_fault.IndexFault.{IndexFault}
 use Rattle.index_format.specs.declared.index_fault.IndexFaultKind.TheVariants.{OutOfMemory as IndexOutOfMemory}
-use Rattle.index_format.specs.Fault.{IsIndexFault}
-use Rattle.index_format.specs.Reading.{IsRefused}
+use Rattle.index_format.proofs.Faults.{no_fault, one_list}
+use Rattle.index_format.proofs.Named.{named_there}
+use Rattle.index_format.proofs.Sums.{right_length}
+use Rattle.command_common.specs.Inputs.{Gives, IsDeviceFault, IsGiven, Reader, reader}
 use Rattle.command_common.specs.declared.faults.InputName.{InputName}
 use Rattle.command_common.specs.declared.faults.Why.{Why}
 use Rattle.command_common.specs.declared.faults.Why.TheVariants.{Record, Index as IndexFaulty}
-use Rattle.command_given_indexes.specs.Prefixes.{IsReadFor, IsStaleFor, IsStaleUnder, IsUnnamedUnder}
+use Rattle.command_given_indexes.specs.Indexes.{HasOtherLength, HoldsIndex, HoldsPart, HoldsTables, IsOfOtherLength, IsRefusedByIndex}
+use Rattle.command_given_indexes.specs.Indexes.{IsRefusedByPart, IsUnreadAt, IsUnreadIndex, IsUnreadPart}
+use Rattle.command_given_indexes.specs.Prefixes.{HasLength, IsReadFor, IsStaleUnder, IsUnnamedUnder}
 use Rattle.command_given_indexes.specs.Several.{AreRefusedLater, AreRefusedTogether}
+use Rattle.command_given_indexes.specs.Together.{AllThree, IsFirstRefusedByIndex, IsKept, IsLater, IsReadWith, IsRefusedAtPlaces}
+use Rattle.laws_index.specs.Contents.{AreOwnIndexes, HaveKeys, IsIndexGiven, IsOwnIndex}
+use Rattle.laws_index.specs.Indexes.{IsIndexFile}
+use Rattle.laws_index.proofs.OfContent.{is_key_of}
+use Rattle.laws_index.proofs.Parts.{at_kept, length_told, part_of, placed_whole, whole_may, whole_of, whole_read}
+use Rattle.laws_index.proofs.PlacedIndex.{placed_index}
 
 -- ---- lists of one length, whose elements at each place are related
 
@@ -61,6 +57,15 @@ module _ {X Y Z : Type 0} (R : X → Y → Z → Type 0) where
       (c, subst (λ (u : X). R u y c) (same_Some a x in_xs) (subst (λ (v : Y). R a v c) (same_Some b y in_ys) all.0))
   three_at (a ∷ xs) (b ∷ ys) (c ∷ zs) (suc n) x y all in_xs in_ys = three_at xs ys zs n x y all.1 in_xs in_ys
   three_at xs ys zs n x y all in_xs in_ys = absurd cc
+
+  -- the third of those at one place, which is there
+  pub three_there : (xs : List X) (ys : List Y) (zs : List Z) (n : ℕ) (x : X) (y : Y) → AllThree R xs ys zs
+      → slice_get xs n ≡ Some x → slice_get ys n ≡ Some y → (z : Z) × (slice_get zs n ≡ Some z) × R x y z
+  three_there (a ∷ xs) (b ∷ ys) [] n x y all in_xs in_ys = absurd all
+  three_there (a ∷ xs) (b ∷ ys) (c ∷ zs) zero x y all in_xs in_ys =
+      (c, refl, subst (λ (u : X). R u y c) (same_Some a x in_xs) (subst (λ (v : Y). R a v c) (same_Some b y in_ys) all.0))
+  three_there (a ∷ xs) (b ∷ ys) (c ∷ zs) (suc n) x y all in_xs in_ys = three_there xs ys zs n x y all.1 in_xs in_ys
+  three_there xs ys zs n x y all in_xs in_ys = absurd cc
 
   -- of the first and the third
   pub first_third : (S : X → Z → Type 0) (xs : List X) (ys : List Y) (zs : List Z)
@@ -110,50 +115,11 @@ given_so left failures old new bytes P given gives = let held : IfSome (Some byt
 pub of_given : {S : Type 0} (input : Reader S) (bytes : List ℕ) (P : List ℕ → Type 0) → IsGiven input bytes → Gives input P → P bytes
 of_given input bytes P given gives = given_so input.left input.failures input.old input.new bytes P given gives
 
--- ---- entries without their claims
-
-front_is : (offset at : ℕ) (r t : List ℕ) → IsRecord r → take 74 (table_entry offset at r t) ≡ placed_entry offset r
-unfolding table_entry
-front_is offset at r t is =
-    ap (λ (n : ℕ). take n (placed_entry offset r ++ claim_bytes (claim_of at r t))) (sym (entry_long offset r is))
-    ∙ take-append_seam (placed_entry offset r) (claim_bytes (claim_of at r t))
-
-fronts_are : (offset at : ℕ) (rs ts : List (List ℕ)) → AllZip IsTableOf rs ts → AllByRecursion IsRecord rs
-    → map (take 74) (table_entries offset at rs ts) ≡ placed_entries offset rs
-fronts_are offset at [] ts each all = refl
-fronts_are offset at (r ∷ rs) [] each all = absurd each
-fronts_are offset at (r ∷ rs) (t ∷ ts) each all = λ i. front_is offset at r t all.0 i
-    ∷ fronts_are (offset + length r) (at + length (stored t)) rs ts each.1 all.1 i
-
-placed_same : (es placed : List (List ℕ)) → map (take 74) es ≡ placed
-    → set.from_list {R = order} (map (take 74) (listing (set.from_list {R = order} es)))
-    ≡ set.from_list {R = order} placed
-placed_same es placed same =
-    let sorted : List (List ℕ) = listing (set.from_list {R = order} es) in
-    same_set nat_list_cmp_total bytes_same (set.from_list (map (take 74) sorted)) (set.from_list placed) (λ q. both_ways _ _
-    (λ h.
-    let m = in_map (take 74) sorted q ((in_made (map (take 74) sorted) q).1 h) in
-    let there : Contains (map (take 74) es) (take 74 m.0) = to_map (take 74) es m.0 ((in_order nat_list_cmp_total bytes_same es m.0).0 m.1) in
-    (in_made placed q).0 (subst (λ (ys : List (List ℕ)). Contains ys q) same (subst (Contains (map (take 74) es)) (sym m.2) there)))
-    (λ h.
-    let m = in_map (take 74) es q (subst (λ (ys : List (List ℕ)). Contains ys q) (sym same) ((in_made placed q).1 h)) in
-    let there : Contains (map (take 74) sorted) (take 74 m.0) = to_map (take 74) sorted m.0 ((in_order nat_list_cmp_total bytes_same es m.0).1 m.1) in
-    (in_made (map (take 74) sorted) q).0 (subst (Contains (map (take 74) sorted)) (sym m.2) there)))
-
-records_of : (o : Operations) → IsContent o → AllByRecursion IsRecord (listing o)
-records_of o content = along IsRecord (listing o) (λ r h. content.records r (sym (any_listing nat_list_cmp_total o r) ∙ h))
-
-pub placed_index : (o : Operations) (tables : List (List ℕ)) → IsContent o → AllZip IsTableOf (listing o) tables
-    → placed_of (entries_of (listing o) tables) ≡ index o
-unfolding entries_of index
-placed_index o tables content each =
-    placed_same (table_entries 8 8 (listing o) tables) (placed_entries 8 (listing o)) (fronts_are 8 8 (listing o) tables each (records_of o content))
-
 -- ---- INDEX of a content
 
 pub tables_are : (o : Operations) (text : List ℕ) (all : List (List ℕ)) → IsIndexFile o text → IsIndexText text all → placed_of all ≡ index o
 tables_are o text all file is =
-    ap placed_of (one_list text all (entries_of (listing o) file.index.tables) is (accepted o text file.index file.content file.archive_fits file.index_fits))
+    ap placed_of (one_list text all (whole_of o text file) is (whole_read o text file))
     ∙ placed_index o file.index.tables file.content file.index.each
 
 -- what it holds
@@ -178,13 +144,32 @@ no_refusal : (o : Operations) (text : List ℕ) (fault : IndexFault) → IsIndex
     → IsDeviceFault why
 no_refusal o text fault file (inl (inl device, at)) other why is = subst IsDeviceFault (sym is) device
 no_refusal o text fault file (inl (inr memory, at)) other why is = absurd (other memory)
-no_refusal o text fault file (inr faulty) other why is =
-    absurd (no_fault text (entries_of (listing o) file.index.tables) fault (accepted o text file.index file.content file.archive_fits file.index_fits) faulty)
+no_refusal o text fault file (inr faulty) other why is = absurd (no_fault text (whole_of o text file) fault (whole_read o text file) faulty)
 
 index_device : {S : Type 0} (left : S → Option (List ℕ)) (failures : S → ℕ) (old new : S) (o : Operations)
     (text : List ℕ) (why : Why) → IsIndexFile o text → IsGiven (reader left failures old new) text
     → IsUnreadIndex (reader left failures old new) why → IsDeviceFault why
 index_device left failures old new o text why file given (fault, is, other, reads) = no_refusal o text fault file (reads.says text given) other why is
+
+-- where some entries are read
+no_part_fault : (o : Operations) (text : List ℕ) (fault : IndexFault) → IsIndexFile o text → IsPartFault text fault → ⊥
+no_part_fault o text fault file (inl (inl beginning)) = no_fault text (whole_of o text file) fault (whole_read o text file) (inl beginning)
+no_part_fault o text fault file (inl (inr end)) = no_fault text (whole_of o text file) fault (whole_read o text file) (inr (inl end))
+no_part_fault o text fault file (inr (ends, inl (kind, offset, none))) = none (whole_of o text file) (whole_read o text file)
+no_part_fault o text fault file (inr (ends, inr (number, offset, none))) = none (whole_of o text file) (whole_may o text file)
+
+no_part_refusal : (o : Operations) (text : List ℕ) (fault : IndexFault) → IsIndexFile o text
+    → IsRefused IsPartFault text fault → fault.kind ≢ IndexOutOfMemory → (why : Why) → why ≡ IndexFaulty fault
+    → IsDeviceFault why
+no_part_refusal o text fault file (inl (inl device, at)) other why is = subst IsDeviceFault (sym is) device
+no_part_refusal o text fault file (inl (inr memory, at)) other why is = absurd (other memory)
+no_part_refusal o text fault file (inr faulty) other why is = absurd (no_part_fault o text fault file faulty)
+
+part_device : {S : Type 0} (left : S → Option (List ℕ)) (failures : S → ℕ) (old new : S) (o : Operations)
+    (text : List ℕ) (why : Why) → IsIndexFile o text → IsGiven (reader left failures old new) text
+    → IsUnreadPart (reader left failures old new) why → IsDeviceFault why
+part_device left failures old new o text why file given (fault, is, other, reads) =
+    no_part_refusal o text fault file (reads.says text given) other why is
 
 -- ---- its archive
 
@@ -195,18 +180,17 @@ unread_at_device IsRead archive text (Record fault) given r = r.0
 unread_at_device IsRead archive text why given r = absurd r
 
 -- it has the length that the index tells
-same_length : {P : Type 0} (archive : Reader P) (o : Operations) (text : List ℕ) → IsIndexFile o text
-    → IsGiven archive (written o) → HasOtherLength archive (index o) → ⊥
-same_length archive o text file known other =
-    of_given archive (written o) (λ t. HasIndexedLength (index o) t → ⊥) known other (right_length o file.content file.archive_fits)
+same_length : {P : Type 0} (archive : Reader P) (o : Operations) (size : ℕ) → length (written o) ≡ size
+    → IsGiven archive (written o) → HasOtherLength archive size → ⊥
+same_length archive o size long known other = of_given archive (written o) (λ t. length t ≢ size) known other long
 
-other_length : {P : Type 0} (number : ℕ) (archive : Reader P) (entries : Entries) (o : Operations) (text : List ℕ)
-    (at : InputName) (why : Why) → IsIndexFile o text → IsGiven archive (written o) → entries ≡ index o
-    → IsOfOtherLength number archive entries at why → IsDeviceFault why
-other_length number archive entries o text at why file known is (inl (place, unread)) =
+other_length : {P : Type 0} (number : ℕ) (archive : Reader P) (size : ℕ) (o : Operations)
+    (at : InputName) (why : Why) → IsGiven archive (written o) → length (written o) ≡ size
+    → IsOfOtherLength number archive size at why → IsDeviceFault why
+other_length number archive size o at why known long (inl (place, unread)) =
     unread_at_device (λ offset. offset ≡ 0) archive (written o) why known unread
-other_length number archive entries o text at why file known is (inr (place, unfailed, stale, other)) =
-    absurd (same_length archive o text file known (subst (λ (s : Entries). HasOtherLength archive s) is other))
+other_length number archive size o at why known long (inr (place, unfailed, stale, other)) =
+    absurd (same_length archive o size long known other)
 
 pub by_device : {I P : Type 0} (number : ℕ) (input : Reader I) (archive : Reader P) (o : Operations) (at : InputName)
     (why : Why) → IsIndexGiven input o → IsGiven archive (written o) → IsRefusedByIndex number input archive at why
@@ -214,33 +198,70 @@ pub by_device : {I P : Type 0} (number : ℕ) (input : Reader I) (archive : Read
 by_device number input archive o at why (text, given, file) known (inl (place, unread, untouched)) =
     index_device input.left input.failures input.old input.new o text why file given unread
 by_device number input archive o at why (text, given, file) known (inr (entries, holds, unfailed, other)) =
-    other_length number archive entries o text at why file known (entries_are input o entries (text, given, file) holds) other
+    let is : entries ≡ index o = entries_are input o entries (text, given, file) holds in
+    other_length number archive (17 + lengths_of entries) o at why known
+    (right_length o file.content file.archive_fits ∙ ap (λ (s : Entries). 17 + lengths_of s) (sym is)) other
+
+-- what was read of the index of a content
+pub held_part : {S : Type 0} (input : Reader S) (uuids : List (List ℕ)) (text : List ℕ) (all : List (List ℕ)) (size : ℕ)
+    → IsGiven input text → HoldsPart uuids input all size → IsPartOf uuids text all size
+held_part input uuids text all size given holds = of_given input text (λ t. IsPartOf uuids t all size) given holds
+
+pub by_part_device : {I P : Type 0} (uuids : List (List ℕ)) (number : ℕ) (input : Reader I) (archive : Reader P) (o : Operations)
+    (at : InputName) (why : Why) → IsIndexGiven input o → IsGiven archive (written o) → IsRefusedByPart uuids number input archive at why
+    → IsDeviceFault why
+by_part_device uuids number input archive o at why (text, given, file) known (inl (place, unread, untouched)) =
+    part_device input.left input.failures input.old input.new o text why file given unread
+by_part_device uuids number input archive o at why (text, given, file) known (inr (all, size, holds, unfailed, other)) =
+    let part = held_part input uuids text all size given holds in
+    other_length number archive size o at why known (sym (part.size_is ∙ length_told o text file)) other
 
 -- ---- no entry is stale
 
-module _ (o : Operations) (text : List ℕ) (file : IsIndexFile o text) where
-  named_at : (prefixes : List (List ℕ)) (k : ℕ) → IsUnnamedUnder prefixes (index o) (written o) k → ⊥
-  named_at prefixes k (number, lt, before, stale) =
+-- none of these prefixes is empty
+abbrev pub AreSome : List (List ℕ) → Type 0
+AreSome prefixes = AllByRecursion (λ (prefix : List ℕ). 0 < length prefix) prefixes
+
+module _ (o : Operations) (text : List ℕ) (file : IsIndexFile o text) (passes : List ℕ → Bool) (part : List (List ℕ))
+    (is : part ≡ only passes (whole_of o text file)) where
+  same_number : length (placed_in part) ≡ length (listing (index o))
+  same_number = length-map part (take 74) ∙ ap length is ∙ length-map (whole_of o text file) (kept passes)
+      ∙ sym (length-map (whole_of o text file) (take 74)) ∙ ap length (placed_whole o text file)
+
+  listed_at : (prefix : List ℕ) → 0 < length prefix → (k : ℕ) → is_under prefix (get_or (placed_in part) k []) ≡ true
+      → get_or (placed_in part) k [] ≡ get_or (listing (index o)) k []
+  listed_at prefix some k under =
+      let same : get_or (placed_in part) k [] ≡ get_or (placed_in (only passes (whole_of o text file))) k [] =
+      ap (λ (es : List (List ℕ)). get_or (placed_in es) k []) is in
+      same ∙ at_kept passes prefix some (whole_of o text file) k (ap (is_under prefix) (sym same) ∙ under)
+      ∙ ap (λ (es : List (List ℕ)). get_or es k []) (placed_whole o text file)
+
+  pub none_unnamed : (prefixes : List (List ℕ)) → AreSome prefixes → (k : ℕ) → IsUnnamedUnder prefixes (placed_in part) (written o) k → ⊥
+  none_unnamed prefixes some k (number, lt, before, stale) =
       let s = index o in
+      let prefix = get_or prefixes number [] in
+      let has : 0 < length prefix = All-from_recursion (λ (f : List ℕ). 0 < length f) prefixes some number [] lt in
       let it = get_or (listing s) k [] in
+      let same : get_or (placed_in part) k [] ≡ it = listed_at prefix has k stale.under in
       let listed : list_any (eq_by_cmp order it) (listing s) ≡ true =
-      list_any_at (eq_by_cmp order it) (listing s) k [] (omega (arith, stale.0, length_written s)) (ap is_eq (tied_itself nat_list_cmp_total it)) in
+      list_any_at (eq_by_cmp order it) (listing s) k [] (omega (arith, stale.within, same_number)) (ap is_eq (tied_itself nat_list_cmp_total it)) in
       let member : set.contains s it ≡ true = sym (any_listing nat_list_cmp_total s it) ∙ listed in
       let named = named_there o it file.content file.archive_fits member in
-      stale.2 named.0 named.1
+      stale.unnamed named.0 (subst (λ (e : List ℕ). IsNamedBy (written o) e named.0) (sym same) named.1)
 
-  not_stale : (prefixes : List (List ℕ)) (entry : Option ℕ) → IsStaleUnder prefixes (index o) (written o) entry → ⊥
-  not_stale prefixes None stale = stale (right_length o file.content file.archive_fits)
-  not_stale prefixes (Some k) stale = named_at prefixes k stale.1
+  not_stale : (prefixes : List (List ℕ)) → AreSome prefixes → (size : ℕ) → length (written o) ≡ size → (entry : Option ℕ)
+      → IsStaleUnder prefixes (placed_in part) size (written o) entry → ⊥
+  not_stale prefixes some size long None stale = stale long
+  not_stale prefixes some size long (Some k) stale = none_unnamed prefixes some k stale.1
 
-  pub at_places : {P : Type 0} (prefixes : List (List ℕ)) (number : ℕ) (archive : Reader P) (entries : List (List ℕ))
-      (at : InputName) (why : Why) → placed_of entries ≡ index o → IsGiven archive (written o)
-      → IsRefusedAtPlaces prefixes number archive entries at why → IsDeviceFault why
-  at_places prefixes number archive entries at why is known (inl (place, unread)) =
-      unread_at_device (IsReadFor prefixes (placed_of entries)) archive (written o) why known unread
-  at_places prefixes number archive entries at why is known (inr (place, unfailed, (entry, why_is, stale))) =
-      let here : IsStaleFor prefixes archive (index o) entry = subst (λ (s : Entries). IsStaleFor prefixes archive s entry) is stale in
-      absurd (not_stale prefixes entry (of_given archive (written o) (λ t. IsStaleUnder prefixes (index o) t entry) known here))
+  pub at_places : {P : Type 0} (prefixes : List (List ℕ)) → AreSome prefixes → (number : ℕ) (archive : Reader P) (size : ℕ)
+      → length (written o) ≡ size → (at : InputName) (why : Why) → IsGiven archive (written o)
+      → IsRefusedAtPlaces prefixes number archive part size at why → IsDeviceFault why
+  at_places prefixes some number archive size long at why known (inl (place, unread)) =
+      unread_at_device (IsReadFor prefixes (placed_in part)) archive (written o) why known unread
+  at_places prefixes some number archive size long at why known (inr (place, unfailed, (entry, why_is, stale))) =
+      absurd (not_stale prefixes some size long entry
+      (of_given archive (written o) (λ t. IsStaleUnder prefixes (placed_in part) size t entry) known stale))
 
 -- ---- an archive from a later state on
 
@@ -256,50 +277,59 @@ still_given first later bytes is given =
 
 -- ---- several
 
--- these are the entries of the index of a content, and the archive is its text
-pub record IsOwnRead {P : Type 0} (archive : Reader P) (all : List (List ℕ)) (o : Operations) : Type 0 where
+-- of the entries of the index of a content these were read, and the archive is its text
+pub record IsOwnRead {P : Type 0} (uuids : List (List ℕ)) (archive : Reader P) (all : List (List ℕ)) (o : Operations) : Type 0 where
   pub text : List ℕ
   pub file : IsIndexFile o text
-  pub entries : placed_of all ≡ index o
+  pub part : all ≡ only (is_under_one uuids) (whole_of o text file)
   pub known : IsGiven archive (written o)
 
-pub own_read : {I P : Type 0} (index : Reader I) (archive : Reader P) (o : Operations) (all : List (List ℕ))
-    → IsOwnIndex index archive o → IsReadWith index archive all → IsOwnRead archive all o
-own_read index archive o all ((text, given, file), known) read =
+pub own_read : {I P : Type 0} (uuids : List (List ℕ)) (index : Reader I) (archive : Reader P) (o : Operations) (all : List (List ℕ))
+    → IsOwnIndex index archive o → IsReadWith uuids index archive all → IsOwnRead uuids archive all o
+own_read uuids index archive o all ((text, given, file), known) read =
     record {
       text = text;
       file = file;
-      entries = held_tables index o all (text, given, file) read.index_is;
-      known =
-          known;
+      part = part_of o text file uuids all (held_part index uuids text all read.size given read.index_is).read;
+      known = known;
     }
 
-own_later : {P : Type 0} (archive : Reader P) (all : List (List ℕ)) (o : Operations) (later : Reader P)
-    → IsOwnRead archive all o → IsLater archive later → IsOwnRead later all o
-own_later archive all o later own is = record {
+own_later : {P : Type 0} (uuids : List (List ℕ)) (archive : Reader P) (all : List (List ℕ)) (o : Operations) (later : Reader P)
+    → IsOwnRead uuids archive all o → IsLater archive later → IsOwnRead uuids later all o
+own_later uuids archive all o later own is = record {
   text = own.text;
   file = own.file;
-  entries = own.entries;
-  known =
-      still_given archive later (written o) is own.known;
+  part = own.part;
+  known = still_given archive later (written o) is own.known;
 }
 
-module _ {I P : Type 0} (prefixes : List (List ℕ)) (inputs : List (Reader I)) (archives : List (Reader P))
+-- the text of a content has the length that was told
+abbrev IsLong : ℕ → List (List ℕ) → Operations → Type 0
+IsLong size all o = length (written o) ≡ size
+
+module _ {I P : Type 0} (uuids prefixes : List (List ℕ)) (inputs : List (Reader I)) (archives : List (Reader P))
     (os : List Operations) (at : InputName) (why : Why) (are : AreOwnIndexes inputs archives os) where
-  pub first_by_device : IsFirstRefusedByIndex inputs archives at why → IsDeviceFault why
+  pub first_by_device : IsFirstRefusedByIndex uuids inputs archives at why → IsDeviceFault why
   first_by_device r =
       let found = three_at IsOwnIndex inputs archives os r.number r.index r.archive are r.index_is.is r.archive_is.is in
-      by_device r.number r.index r.archive found.0 at why found.1.0 found.1.1 r.refused
+      by_part_device uuids r.number r.index r.archive found.0 at why found.1.0 found.1.1 r.refused
 
-  pub later_by_device : AreRefusedLater prefixes inputs archives at why → IsDeviceFault why
-  later_by_device r =
-      let own = with_fourth IsOwnIndex IsReadWith IsOwnRead inputs archives os r.all (λ x y z w is read. own_read x y z w is read) are r.read in
-      let there = for_first IsOwnRead IsLater IsOwnRead archives r.all os r.later (λ x y z w is later. own_later x y z w is later) own r.are_later in
-      let found = three_at IsOwnRead r.later r.all os r.refused.number r.refused.archive r.refused.entries there
+  pub later_by_device : AreSome prefixes → AreRefusedLater uuids prefixes inputs archives at why → IsDeviceFault why
+  later_by_device some r =
+      let own = with_fourth IsOwnIndex (IsReadWith uuids) (IsOwnRead uuids) inputs archives os r.all
+      (λ x y z w is read. own_read uuids x y z w is read) are r.read in
+      let there = for_first (IsOwnRead uuids) IsLater (IsOwnRead uuids) archives r.all os r.later
+      (λ x y z w is later. own_later uuids x y z w is later) own r.are_later in
+      let long = for_first (IsOwnRead uuids) HasLength IsLong archives r.all os r.sizes
+      (λ x y z w is has. of_given x (written z) (λ t. length t ≡ w) is.known has) own r.lengths in
+      let found = three_there (IsOwnRead uuids) r.later r.all os r.refused.number r.refused.archive r.refused.entries there
       r.refused.archive_is.is r.refused.entries_are in
-      at_places found.0 found.1.text found.1.file prefixes r.refused.number r.refused.archive r.refused.entries at why
-      found.1.entries found.1.known r.refused.refused
+      let told = three_there IsLong r.sizes r.all os r.refused.number r.refused.size r.refused.entries long r.refused.size_is r.refused.entries_are in
+      let same : told.0 ≡ found.0 = cc (told.1, found.1) in
+      at_places found.0 found.2.text found.2.file (is_under_one uuids) r.refused.entries found.2.part prefixes some
+      r.refused.number r.refused.archive r.refused.size (subst (λ (w : Operations). length (written w) ≡ r.refused.size) same told.2) at why
+      found.2.known r.refused.refused
 
-  pub together_by_device : AreRefusedTogether prefixes inputs archives at why → IsDeviceFault why
-  together_by_device (inl first) = first_by_device first
-  together_by_device (inr later) = later_by_device later
+  pub together_by_device : AreSome prefixes → AreRefusedTogether uuids prefixes inputs archives at why → IsDeviceFault why
+  together_by_device some (inl first) = first_by_device first
+  together_by_device some (inr later) = later_by_device some later

@@ -1,18 +1,20 @@
 -- What the indexes of contents tell is what the join of these contents tells.
-use Rattle.std.proofs.Common.{◌≡◌, ◌⊎◌, ℕ, zero, suc, ◌+◌, ◌≤◌, Bool, true, false, List, [], ◌∷◌, ◌++◌, length, get_or}
+use Rattle.std.proofs.Common.{◌≡◌, ◌⊎◌, ℕ, zero, suc, ◌<◌, ◌≤◌, Bool, true, false, List, [], ◌∷◌, ◌++◌, length, get_or}
 use Rattle.std.proofs.Common.{Contains, Option, Some, None, refl, sym, ap, ◌∙◌, subst, inl, inr, arith}
 use Rattle.std.specs.Prelude.{slice_get}
 use Rattle.std.specs.List.{AllZip}
 use Rattle.std.proofs.lemmas.List.{append-nil}
+use Rattle.std.proofs.lemmas.List.Elements.{All-contains, Contains-append_left, Contains-append_right}
 use Rattle.std.proofs.lemmas.Option.{slice_get_within}
 use Rattle.archive_core.specs.Content.{Operations}
+use Rattle.archive_records.specs.Text.{written}
 use Rattle.archive_core.specs.Key.{IsKey, key_bytes}
 use Rattle.archive_core.specs.Lookup.{AnswerRecord, answer_view}
 use Rattle.archive_core.specs.declared.keys.SliceKey.{SliceKey}
 use Rattle.archive_core.specs.declared.lookup.Where.{Where}
 use Rattle.archive_core.proofs.Compare.{length_key_bytes}
 use Rattle.archive_core.proofs.Entries.{admission_entry}
-use Rattle.archive_core.proofs.Members.{in_cons, in_front, in_map, in_rest}
+use Rattle.archive_core.proofs.Members.{in_cons, in_front, in_map, in_rest, to_map}
 use Rattle.dwarf_source_frames.specs.Frames.{FrameRecord}
 use Rattle.command_queries.specs.Frames.{IsFrameAnswered, IsFrameSaid, TellFrames, TellsFrames, TellsFramesWith, frame_keys, frames_under_key}
 use Rattle.command_queries.specs.Slices.{IsAnsweringRow, WithSlices}
@@ -21,23 +23,25 @@ use Rattle.command_queries.specs.Symbolicate.{Answered, TellsAddressesWith, aske
 use Rattle.command_queries.proofs.Answered.{addresses_told_with, under_key}
 use Rattle.command_queries.proofs.AnswersWithFrames.{sourced_as}
 use Rattle.command_common.proofs.Alike.{answers_alike}
-use Rattle.command_common.specs.Inputs.{EachUnfailed, IsDeviceFault, IsGiven, Reader, Unfailed}
+use Rattle.command_common.specs.Inputs.{IsDeviceFault, IsGiven, Reader}
 use Rattle.command_common.specs.declared.faults.InputName.{InputName}
 use Rattle.command_common.specs.declared.faults.InputName.TheVariants.{Index}
 use Rattle.command_common.specs.declared.faults.Status.{Status}
 use Rattle.command_common.specs.declared.faults.Why.{Why}
 use Rattle.command_common.specs.declared.faults.Why.TheVariants.{NoLines}
 use Rattle.text_input_files.specs.declared.frame.Frame.{Frame}
-use Rattle.index_format.specs.Text.{IsIndexText}
-use Rattle.laws_index.specs.Indexes.{AreIndexes, AreTiedSlices, DigestsDiffer, IsIndexFile, all_joined}
+use Rattle.index_format.specs.Text.{IsIndexText, placed_in}
+use Rattle.index_format.specs.Tree.{AreReadUnder, is_under_one}
+use Rattle.laws_index.specs.Indexes.{AreIndexes, AreTiedSlices, AreUnderOne, DigestsDiffer, IsIndexFile, all_joined}
 use Rattle.laws_index.proofs.Joined.{joined_alone, tells_alone}
 use Rattle.laws_index.proofs.IndexesAreRight as told
 use Rattle.index_lookup.specs.Among.{AreAnsweringAmong, AreTied, EntryAt}
 use Rattle.index_lookup.specs.AmongAsked.{IsLinelessAt}
 use Rattle.text_reports.specs.Slices.{TellsSlices}
+use Rattle.command_given_indexes.specs.Prefixes.{IsUnnamedUnder}
 use Rattle.command_given_indexes.specs.Several.{HoldTogether}
 use Rattle.command_given_indexes.specs.Together.{AreLater, AreReadWith, IsReadWith}
-use Rattle.command_frames.specs.Asking.{AreGiven, AreRefusedAsking, AreUntold, IsAnsweredAt, IsAnsweredBySlices, IsAnsweredByTables}
+use Rattle.command_frames.specs.Asking.{AreAskedUuids, AreGiven, AreRefusedAsking, AreUntold, IsAnsweredAt, IsAnsweredBySlices, IsAnsweredByTables}
 use Rattle.command_frames.specs.Asking.{IsTableRefused, IsUnreadTable, is_stale_entry, keys_of}
 use Rattle.command_frames.specs.Frames.{AreToldAt, IsAnsweredOrRefused, IsFrameReplied}
 use Rattle.command_frames.specs.Frames.{TellFramesBesides, TellFramesWith, symbolicate_at}
@@ -49,8 +53,10 @@ use Rattle.laws_index.specs.Refusing.{AreOwnTexts, IsRefusedFor, IsRefusedForLin
 use Rattle.laws_index.specs.Refusing.{IsRefusedForSlice, TellsAddressesOrBesides, TellsFramesBesides, TellsFramesOrBesides}
 use Rattle.laws_index.proofs.AnsweringRows.{lines_told}
 use Rattle.laws_index.proofs.ByIndex.{held_alike}
-use Rattle.laws_index.proofs.Accepted.{IsOwnRead, at_places, first_by_device, first_third, for_first}
-use Rattle.laws_index.proofs.Accepted.{held_text, later_by_device, own_read, three_at, with_fourth}
+use Rattle.laws_index.proofs.Accepted.{IsOwnRead, first_by_device, first_third, for_first, held_part}
+use Rattle.laws_index.proofs.Accepted.{later_by_device, none_unnamed, of_given, own_read, three_at, with_fourth}
+use Rattle.laws_index.proofs.PartRows.{lines_whole}
+use Rattle.laws_index.proofs.Parts.{AreParts, answering_whole, key_under, parts_of, tied_whole, told_whole}
 
 -- ---- the texts of indexes
 
@@ -67,17 +73,24 @@ texts_of (input ∷ inputs) (o ∷ os) (first, rest) =
     record { texts = first.0 ∷ more.texts; given = (first.1, more.given); files = (first.2, more.files) }
 texts_of inputs os are = absurd are
 
-module _ {I P : Type 0} (inputs : List (Reader I)) (archives : List (Reader P)) (all : List (List (List ℕ))) (read : AreReadWith inputs archives all) where
-  pub indexes_are : (os : List Operations) (texts : List (List ℕ)) → AreGiven inputs texts → AllZip IsIndexFile os texts → AreIndexes os texts all
-  indexes_are os texts given files =
-      let IsText : List ℕ → Reader P → List (List ℕ) → Type 0 = λ t a es. IsIndexText t es in
-      let three = for_first IsReadWith IsGiven IsText inputs archives all texts (λ x y z w is known. held_text x w z known is.index_is) read given in
-      record { files = files; read = first_third IsText IsIndexText texts archives all (λ x y z is. is) three }
+module _ {I P : Type 0} (uuids : List (List ℕ)) (inputs : List (Reader I)) (archives : List (Reader P)) (all : List (List (List ℕ)))
+    (read : AreReadWith uuids inputs archives all) where
+  pub parts_are : (os : List Operations) (texts : List (List ℕ)) → AreGiven inputs texts → AllZip IsIndexFile os texts → AreParts uuids os texts all
+  parts_are os texts given files =
+      let IsText : List ℕ → Reader P → List (List ℕ) → Type 0 = λ t a es. AreReadUnder uuids t es in
+      let three = for_first (IsReadWith uuids) IsGiven IsText inputs archives all texts
+      (λ x y z w is known. (held_part x uuids w z is.size known is.index_is).read) read given in
+      parts_of uuids os texts all files (first_third IsText (λ t es. AreReadUnder uuids t es) texts archives all (λ x y z is. is) three)
+
+-- ---- keys that are asked
+
+short_key : (key : SliceKey) → IsKey key → length (key_bytes key) ≤ 24
+short_key key is_key = omega (arith, length_key_bytes key is_key.uuid)
 
 -- ---- what tables and slices tell
 
-module _ {I P : Type 0} (inputs : List (Reader I)) (archives : List (Reader P)) (os : List Operations)
-    (all : List (List (List ℕ))) (read : AreReadWith inputs archives all) where
+module _ {I P : Type 0} (uuids : List (List ℕ)) (inputs : List (Reader I)) (archives : List (Reader P)) (os : List Operations)
+    (all : List (List (List ℕ))) (read : AreReadWith uuids inputs archives all) where
   -- the archives, as they are
   itself_later : {Q : Type 0} (ones : List (Reader Q)) → AreLater ones ones
   itself_later [] = tt
@@ -87,23 +100,25 @@ module _ {I P : Type 0} (inputs : List (Reader I)) (archives : List (Reader P)) 
   )
 
   pub said_by_tables : (its : AreTextsOf inputs os) → DigestsDiffer os → (lines : Bool) (key : SliceKey) (asked : Where)
-      (answer : AnswerRecord) (frames : List (List FrameRecord)) → IsKey key
+      (answer : AnswerRecord) (frames : List (List FrameRecord)) → IsKey key → AreUnderOne uuids (key_bytes key)
       → IsAnsweredByTables (AreGiven inputs) all lines key asked answer frames
       → IsAnswerWithFrames (all_joined os) key lines asked answer frames
-  said_by_tables its tell lines key asked answer frames is_key is =
-      told.right os its.texts all (indexes_are inputs archives all read os its.texts its.given its.files) key is_key lines
-      asked answer frames tell (is.answer_is its.texts its.given)
+  said_by_tables its tell lines key asked answer frames is_key under is =
+      let p = parts_are uuids inputs archives all read os its.texts its.given its.files in
+      told.right os its.texts p.whole p.indexes key is_key lines asked answer frames tell
+      (told_whole uuids (key_bytes key) (short_key key is_key) under p.whole all p.parts its.texts lines asked answer frames
+      (is.answer_is its.texts its.given))
 
   pub said_by_slices : AreIndexed inputs archives os → (lines : Bool) (key : SliceKey) (asked : Where)
-      (answer : AnswerRecord) (frames : List (List FrameRecord)) → length (key_bytes key) ≤ 24
+      (answer : AnswerRecord) (frames : List (List FrameRecord)) → length (key_bytes key) ≤ 24 → AreUnderOne uuids (key_bytes key)
       → IsAnsweredBySlices archives all lines key asked answer frames
       → IsAnswerWithFrames (all_joined os) key lines asked answer frames
-  said_by_slices are lines key asked answer frames short is =
-      let held : HoldTogether (key_bytes key ∷ []) inputs archives is.content =
+  said_by_slices are lines key asked answer frames short under is =
+      let held : HoldTogether uuids (key_bytes key ∷ []) inputs archives is.content =
       record { all = all; read = read; later = archives; are_later = itself_later archives; named = is.held } in
       sourced_as is.content (all_joined os) key lines asked answer frames
-      (answers_alike is.content (all_joined os) key (held_alike (key_bytes key ∷ []) inputs archives os is.content
-      (short, tt) are held (key_bytes key) (0, omega arith, refl))) is.answered
+      (answers_alike is.content (all_joined os) key (held_alike uuids (key_bytes key ∷ []) inputs archives os is.content
+      ((short, under), tt) are held (key_bytes key) (0, omega arith, refl))) is.answered
 
 -- ---- what is refused
 
@@ -164,54 +179,60 @@ are_own [] archives (o ∷ os) given own = absurd given
 are_own (input ∷ inputs) archives [] given own = absurd given
 are_own (input ∷ inputs) [] (o ∷ os) given own = absurd own
 
-module _ {I P : Type 0} (inputs : List (Reader I)) (archives : List (Reader P)) (os : List Operations) (lines : Bool)
-    (all : List (List (List ℕ))) (read : AreReadWith inputs archives all) where
+-- a key that was asked: the entries under it were read
+pub record IsAskedKey (uuids : List (List ℕ)) (bytes : List ℕ) : Type 0 where
+  pub short : length bytes ≤ 24
+  pub some : 0 < length bytes
+  pub under : AreUnderOne uuids bytes
+
+module _ {I P : Type 0} (uuids : List (List ℕ)) (inputs : List (Reader I)) (archives : List (Reader P)) (os : List Operations) (lines : Bool)
+    (all : List (List (List ℕ))) (read : AreReadWith uuids inputs archives all) where
   -- a table that refuses its key by right indexes does so for lines
-  for_lines : AreTextsOf inputs os → (frames : List Frame) (refusal : KeyRefusal) → IsRefusedByTable lines frames inputs all refusal
-      → IsRefusedForLines lines os refusal
-  for_lines its frames refusal r =
-      let indexes = indexes_are inputs archives all read os its.texts its.given its.files in
+  for_lines : AreTextsOf inputs os → (frames : List Frame) (refusal : KeyRefusal) → IsAskedKey uuids (key_bytes refusal.key)
+      → IsRefusedByTable lines frames inputs all refusal → IsRefusedForLines lines os refusal
+  for_lines its frames refusal is_asked r =
+      let p = parts_are uuids inputs archives all read os its.texts its.given its.files in
+      let are = answering_whole uuids (key_bytes refusal.key) is_asked.short is_asked.under p.whole all p.parts r.answering r.are in
       elim r.untold [
-        | inl changed ↦ absurd (told.none_damaged os its.texts all indexes (key_bytes refusal.key) r.answering changed.input
-            changed.number r.are (changed.changed its.texts its.given))
-        | inr lacking ↦ lacks_lines os its.texts all indexes lines (key_bytes refusal.key) (key_bytes refusal.key ∷ []) (0, omega arith, refl)
-            refusal.at refusal.why r.answering lacking.input lacking.number r.are lacking.wanted lacking.at_is lacking.why_is
+        | inl changed ↦ absurd (told.none_damaged os its.texts p.whole p.indexes (key_bytes refusal.key) r.answering changed.input
+            changed.number are (changed.changed its.texts its.given))
+        | inr lacking ↦ lacks_lines os its.texts p.whole p.indexes lines (key_bytes refusal.key) (key_bytes refusal.key ∷ []) (0, omega arith, refl)
+            refusal.at refusal.why r.answering lacking.input lacking.number are lacking.wanted lacking.at_is lacking.why_is
             (lacking.lacks its.texts its.given)
       ]
 
-  unfailed_at : {Q : Type 0} (ones : List (Reader Q)) (n : ℕ) (one : Reader Q) → EachUnfailed ones
-      → slice_get ones n ≡ Some one → Unfailed one
-  unfailed_at [] n one each at = absurd (cc at)
-  unfailed_at {Q} (x ∷ ones) zero one each at = let is : x ≡ one = cc at in subst (λ (r : Reader Q). Unfailed r) is each.0
-  unfailed_at (x ∷ ones) (suc n) one each at = unfailed_at ones n one each.1 at
-
   -- no slice of the texts of the contents refuses its key
-  none_stale : AreOwnIndexes inputs archives os → (refusal : KeyRefusal) → IsRefusedBySlice archives all refusal → ⊥
-  none_stale are refusal r =
-      let own = with_fourth IsOwnIndex IsReadWith IsOwnRead inputs archives os all (λ x y z w is read. own_read x y z w is read) are read in
+  none_stale : AreOwnIndexes inputs archives os → (refusal : KeyRefusal) → 0 < length (key_bytes refusal.key)
+      → IsRefusedBySlice archives all refusal → ⊥
+  none_stale are refusal some r =
+      let own = with_fourth IsOwnIndex (IsReadWith uuids) (IsOwnRead uuids) inputs archives os all
+      (λ x y z w is read. own_read uuids x y z w is read) are read in
       let s = r.stale in
-      let found = three_at IsOwnRead archives all os s.number s.archive s.entries own s.archive_is s.entries_are in
-      subst IsDeviceFault s.why_is (at_places found.0 found.1.text found.1.file (key_bytes refusal.key ∷ []) s.number s.archive s.entries
-      refusal.at refusal.why found.1.entries found.1.known
-      (inr (s.at_is, unfailed_at archives s.number s.archive r.unfailed s.archive_is, (Some s.entry, s.why_is, s.stale))))
+      let found = three_at (IsOwnRead uuids) archives all os s.number s.archive s.entries own s.archive_is s.entries_are in
+      none_unnamed found.0 found.1.text found.1.file (is_under_one uuids) s.entries found.1.part (key_bytes refusal.key ∷ []) (some, tt) s.entry
+      (of_given s.archive (written found.0) (λ t. IsUnnamedUnder (key_bytes refusal.key ∷ []) (placed_in s.entries) t s.entry) found.1.known s.stale)
 
-  pub own_key : AreOwnIndexes inputs archives os → (frames : List Frame) (refusal : KeyRefusal)
+  pub own_key : AreOwnIndexes inputs archives os → (frames : List Frame) (refusal : KeyRefusal) → IsAskedKey uuids (key_bytes refusal.key)
       → IsKeyRefused lines frames inputs archives all refusal → IsRefusedForLines lines os refusal
-  own_key are frames refusal (inl table) = for_lines (texts_of inputs os (own_given inputs archives os are)) frames refusal table
-  own_key are frames refusal (inr slice) = absurd (none_stale are refusal slice)
+  own_key are frames refusal is_asked (inl table) =
+      for_lines (texts_of inputs os (own_given inputs archives os are)) frames refusal is_asked table
+  own_key are frames refusal is_asked (inr slice) = absurd (none_stale are refusal is_asked.some slice)
 
   key_for : (given : AreIndexesGiven inputs os) (frames : List Frame) (refusal : KeyRefusal) (key : SliceKey) → IsKey key
-      → key_bytes refusal.key ≡ key_bytes key → IsKeyRefused lines frames inputs archives all refusal → IsRefusedFor lines archives os refusal
-  key_for given frames refusal key is_key same (inl table) = inl (for_lines (texts_of inputs os given) frames refusal table)
-  key_for given frames refusal key is_key same (inr slice) =
+      → key_bytes refusal.key ≡ key_bytes key → IsAskedKey uuids (key_bytes refusal.key)
+      → IsKeyRefused lines frames inputs archives all refusal → IsRefusedFor lines archives os refusal
+  key_for given frames refusal key is_key same is_asked (inl table) = inl (for_lines (texts_of inputs os given) frames refusal is_asked table)
+  key_for given frames refusal key is_key same is_asked (inr slice) =
       let its = texts_of inputs os given in
-      let indexes = indexes_are inputs archives all read os its.texts its.given its.files in
+      let p = parts_are uuids inputs archives all read os its.texts its.given its.files in
+      let tied : AreTied (key_bytes refusal.key) p.whole =
+      tied_whole uuids (key_bytes refusal.key) is_asked.short is_asked.under p.whole all p.parts slice.tied in
       let by : IsRefusedForSlice archives os refusal = record {
         key = key;
         key_is = same;
-        tied = told.tied os its.texts all indexes key is_key (subst (λ (k : List ℕ). AreTied k all) same slice.tied);
+        tied = told.tied os its.texts p.whole p.indexes key is_key (subst (λ (k : List ℕ). AreTied k p.whole) same tied);
         stale = ap is_stale_entry slice.stale.why_is;
-        changed = λ own. none_stale (are_own inputs archives os given own) refusal slice;
+        changed = λ own. none_stale (are_own inputs archives os given own) refusal is_asked.some slice;
       } in
       inr by
 
@@ -230,12 +251,35 @@ one_long key other is_key there = elim (in_cons key [] other there) [
   | inr more ↦ absurd (omega (arith, more.1))
 ]
 
-short_key : (key : SliceKey) → IsKey key → length (key_bytes key) ≤ 24
-short_key key is_key = omega (arith, length_key_bytes key is_key.uuid)
+-- the keys that were asked
+asked_key : (keys : List SliceKey) (uuids : List (List ℕ)) → AreAskedUuids keys uuids → (key : SliceKey) → Contains keys key
+    → IsAskedKey uuids (key_bytes key)
+asked_key keys uuids asked key there =
+    let has : Contains uuids key.uuid = (asked.are key.uuid).1 (key, there, refl) in
+    let long : length key.uuid ≡ 16 = All-contains (λ (u : List ℕ). length u ≡ 16) uuids key.uuid asked.long has in
+    record {
+      short = omega (arith, length_key_bytes key long);
+      some = omega (arith, length_key_bytes key long);
+      under = key_under uuids key has;
+    }
 
-module _ {I P : Type 0} (inputs : List (Reader I)) (archives : List (Reader P)) (os : List Operations) (lines : Bool)
-    (all : List (List (List ℕ))) (read : AreReadWith inputs archives all) (given : AreIndexesGiven inputs os)
+pub asked_bytes : (keys : List SliceKey) (frames : List Frame) (uuids : List (List ℕ)) → AreAskedUuids (keys ++ frame_keys frames) uuids
+    → (bytes : List ℕ) → Contains (keys_of frames) bytes → IsAskedKey uuids bytes
+asked_bytes keys frames uuids asked bytes there =
+    let found = in_map (λ (f : Frame). key_bytes f.key) frames bytes there in
+    let among : Contains (frame_keys frames) found.0.key = to_map (λ (f : Frame). f.key) frames found.0 found.1 in
+    subst (IsAskedKey uuids) (sym found.2)
+    (asked_key (keys ++ frame_keys frames) uuids asked found.0.key (Contains-append_right keys (frame_keys frames) found.0.key among))
+
+pub asked_frame : (keys : List SliceKey) (frames : List Frame) (uuids : List (List ℕ)) → AreAskedUuids (keys ++ frame_keys frames) uuids
+    → (frame : Frame) → Contains frames frame → IsAskedKey uuids (key_bytes frame.key)
+asked_frame keys frames uuids asked frame there =
+    asked_bytes keys frames uuids asked (key_bytes frame.key) (to_map (λ (f : Frame). key_bytes f.key) frames frame there)
+
+module _ {I P : Type 0} (uuids : List (List ℕ)) (inputs : List (Reader I)) (archives : List (Reader P)) (os : List Operations) (lines : Bool)
+    (all : List (List (List ℕ))) (read : AreReadWith uuids inputs archives all) (given : AreIndexesGiven inputs os)
     (keys : List SliceKey) (long : (key : SliceKey) → Contains keys key → length key.uuid ≡ 16) (listed : List Frame)
+    (asks : AreAskedUuids (keys ++ frame_keys listed) uuids)
     (keyed : (frame : Frame) → Contains listed frame → IsKey frame.key)
     (said : (frame : Frame) → Contains listed frame → (answer : AnswerRecord) (frames : List (List FrameRecord))
     → IsAnsweredAt (AreGiven inputs) archives all lines frame.key (asked_of frame.load frame.address) answer frames
@@ -301,7 +345,8 @@ module _ {I P : Type 0} (inputs : List (Reader I)) (archives : List (Reader P)) 
       → IsKeyRefused lines listed inputs archives all refusal → IsRefusedFor lines archives os refusal
   refusal_told refusal there is =
       let frame = in_map (λ (f : Frame). key_bytes f.key) listed (key_bytes refusal.key) there in
-      key_for inputs archives os lines all read given listed refusal frame.0.key (keyed frame.0 frame.1) frame.2 is
+      key_for uuids inputs archives os lines all read given listed refusal frame.0.key (keyed frame.0 frame.1) frame.2
+      (asked_bytes keys listed uuids asks (key_bytes refusal.key) there) is
 
   besides_told : (refusals : List KeyRefusal) (s : Status) (t : List ℕ)
       → TellFramesBesides Entries (IsKeyRefused lines listed inputs archives all) listed refusals s t
@@ -319,7 +364,10 @@ module _ {I P : Type 0} (inputs : List (Reader I)) (archives : List (Reader P)) 
 
   slices_told : (slices : List ℕ) → TellsSlices (IsAnsweringEntryRow all keys) keys slices → TellsSlices (IsAnsweringRow o keys) keys slices
   slices_told slices by =
-      lines_told os its.texts all (indexes_are inputs archives all read os its.texts its.given its.files) keys long slices by
+      let p = parts_are uuids inputs archives all read os its.texts its.given its.files in
+      lines_told os its.texts p.whole p.indexes keys long slices
+      (lines_whole uuids p.whole all p.parts keys
+      (λ key there. (asks.are key.uuid).1 (key, Contains-append_left keys (frame_keys listed) key there, refl)) slices by)
 
   -- what is told is what the content tells, or besides refused keys
   pub listed_told : (slices : Bool) (status : Status) (text : List ℕ)
@@ -365,31 +413,35 @@ none_tied key all few tied =
 -- ---- the laws
 
 module _ {I P : Type 0} (inputs : List (Reader I)) (archives : List (Reader P)) (os : List Operations) where
-  said_untied : (given : AreIndexesGiven inputs os) → DigestsDiffer os → (all : List (List (List ℕ))) → AreReadWith inputs archives all
-      → (lines : Bool) (key : SliceKey) → IsKey key → (AreTied (key_bytes key) all → ⊥) → (asked : Where) (answer : AnswerRecord)
+  said_untied : (given : AreIndexesGiven inputs os) → DigestsDiffer os → (uuids : List (List ℕ)) (all : List (List (List ℕ)))
+      → AreReadWith uuids inputs archives all → (lines : Bool) (key : SliceKey) → IsKey key → AreUnderOne uuids (key_bytes key)
+      → (AreTied (key_bytes key) all → ⊥) → (asked : Where) (answer : AnswerRecord)
       (frames : List (List FrameRecord)) → IsAnsweredAt (AreGiven inputs) archives all lines key asked answer frames
       → IsAnswerWithFrames (all_joined os) key lines asked answer frames
-  said_untied given tell all read lines key is_key untied asked answer frames (inl is) =
-      said_by_tables inputs archives os all read (texts_of inputs os given) tell lines key asked answer frames is_key is
-  said_untied given tell all read lines key is_key untied asked answer frames (inr is) = absurd (untied is.tied)
+  said_untied given tell uuids all read lines key is_key under untied asked answer frames (inl is) =
+      said_by_tables uuids inputs archives os all read (texts_of inputs os given) tell lines key asked answer frames is_key under is
+  said_untied given tell uuids all read lines key is_key under untied asked answer frames (inr is) = absurd (untied is.tied)
 
-  untied_by : (given : AreIndexesGiven inputs os) (all : List (List (List ℕ))) → AreReadWith inputs archives all → (key : SliceKey)
-      → IsKey key → (AreTiedSlices os key → ⊥) → AreTied (key_bytes key) all → ⊥
-  untied_by given all read key is_key none tied =
+  untied_by : (given : AreIndexesGiven inputs os) (uuids : List (List ℕ)) (all : List (List (List ℕ))) → AreReadWith uuids inputs archives all
+      → (key : SliceKey) → IsKey key → AreUnderOne uuids (key_bytes key) → (AreTiedSlices os key → ⊥) → AreTied (key_bytes key) all → ⊥
+  untied_by given uuids all read key is_key under none tied =
       let its = texts_of inputs os given in
-      none (told.tied os its.texts all (indexes_are inputs archives all read os its.texts its.given its.files) key is_key tied)
+      let p = parts_are uuids inputs archives all read os its.texts its.given its.files in
+      none (told.tied os its.texts p.whole p.indexes key is_key
+      (tied_whole uuids (key_bytes key) (short_key key is_key) under p.whole all p.parts tied))
 
   pub given_indexes : AreIndexed inputs archives os → AreIndexesGiven inputs os
   given_indexes are = first_third IsIndexed IsIndexGiven inputs archives os (λ x y z is. is.0) are
 
-  said_either : (are : AreIndexed inputs archives os) → DigestsDiffer os → (all : List (List (List ℕ))) → AreReadWith inputs archives all
-      → (lines : Bool) (key : SliceKey) → IsKey key → (asked : Where) (answer : AnswerRecord)
+  said_either : (are : AreIndexed inputs archives os) → DigestsDiffer os → (uuids : List (List ℕ)) (all : List (List (List ℕ)))
+      → AreReadWith uuids inputs archives all → (lines : Bool) (key : SliceKey) → IsKey key → AreUnderOne uuids (key_bytes key)
+      → (asked : Where) (answer : AnswerRecord)
       (frames : List (List FrameRecord)) → IsAnsweredAt (AreGiven inputs) archives all lines key asked answer frames
       → IsAnswerWithFrames (all_joined os) key lines asked answer frames
-  said_either are tell all read lines key is_key asked answer frames (inl is) =
-      said_by_tables inputs archives os all read (texts_of inputs os (given_indexes are)) tell lines key asked answer frames is_key is
-  said_either are tell all read lines key is_key asked answer frames (inr is) =
-      said_by_slices inputs archives os all read are lines key asked answer frames (short_key key is_key) is
+  said_either are tell uuids all read lines key is_key under asked answer frames (inl is) =
+      said_by_tables uuids inputs archives os all read (texts_of inputs os (given_indexes are)) tell lines key asked answer frames is_key under is
+  said_either are tell uuids all read lines key is_key under asked answer frames (inr is) =
+      said_by_slices uuids inputs archives os all read are lines key asked answer frames (short_key key is_key) under is
 
   abbrev Besides : Bool → Bool → List SliceKey → List Frame → Status → List ℕ → Type 0
   Besides lines slices keys listed status text =
@@ -402,9 +454,12 @@ module _ {I P : Type 0} (inputs : List (Reader I)) (archives : List (Reader P)) 
       → ((frame : Frame) → Contains listed frame → IsKey frame.key × (AreTiedSlices os frame.key → ⊥))
       → AreToldAt lines slices inputs archives keys listed status text → Besides lines slices keys listed status text
   framed_untied lines slices keys listed status text given tell long keyed by =
-      listed_told inputs archives os lines by.all by.read given keys long listed (λ frame there. (keyed frame there).0)
-      (λ frame there answer frames is. said_untied given tell by.all by.read lines frame.key (keyed frame there).0
-      (untied_by given by.all by.read frame.key (keyed frame there).0 (keyed frame there).1) (asked_of frame.load frame.address) answer frames is)
+      let under : (frame : Frame) → Contains listed frame → AreUnderOne by.uuids (key_bytes frame.key) =
+      λ frame there. (asked_frame keys listed by.uuids by.asked frame there).under in
+      listed_told by.uuids inputs archives os lines by.all by.read given keys long listed by.asked (λ frame there. (keyed frame there).0)
+      (λ frame there answer frames is. said_untied given tell by.uuids by.all by.read lines frame.key (keyed frame there).0 (under frame there)
+      (untied_by given by.uuids by.all by.read frame.key (keyed frame there).0 (under frame there) (keyed frame there).1)
+      (asked_of frame.load frame.address) answer frames is)
       slices status text by.told
 
   pub framed_either : (lines slices : Bool) (keys : List SliceKey) (listed : List Frame) (status : Status) (text : List ℕ)
@@ -412,8 +467,9 @@ module _ {I P : Type 0} (inputs : List (Reader I)) (archives : List (Reader P)) 
       → ((frame : Frame) → Contains listed frame → IsKey frame.key)
       → AreToldAt lines slices inputs archives keys listed status text → Besides lines slices keys listed status text
   framed_either lines slices keys listed status text are tell long keyed by =
-      listed_told inputs archives os lines by.all by.read (given_indexes are) keys long listed keyed
-      (λ frame there answer frames is. said_either are tell by.all by.read lines frame.key (keyed frame there)
+      listed_told by.uuids inputs archives os lines by.all by.read (given_indexes are) keys long listed by.asked keyed
+      (λ frame there answer frames is. said_either are tell by.uuids by.all by.read lines frame.key (keyed frame there)
+      (asked_frame keys listed by.uuids by.asked frame there).under
       (asked_of frame.load frame.address) answer frames is) slices status text by.told
 
   pub frames_untied : (lines slices : Bool) (listed : List Frame) (status : Status) (text : List ℕ)
@@ -462,19 +518,20 @@ module _ {I P : Type 0} (input : Reader I) (archive : Reader P) (o : Operations)
   joined_one : all_joined (o ∷ []) ≡ o
   joined_one = joined_alone o is.2.content.itself
 
-  one_all : (all : List (List (List ℕ))) → AreReadWith (input ∷ []) (archive ∷ []) all → length all ≤ 1
-  one_all [] read = absurd read
-  one_all (entries ∷ []) read = omega arith
-  one_all (entries ∷ (more ∷ all)) read = absurd read.1
+  one_all : (uuids : List (List ℕ)) (all : List (List (List ℕ))) → AreReadWith uuids (input ∷ []) (archive ∷ []) all → length all ≤ 1
+  one_all uuids [] read = absurd read
+  one_all uuids (entries ∷ []) read = omega arith
+  one_all uuids (entries ∷ (more ∷ all)) read = absurd read.1
 
   alone : (lines slices : Bool) (keys : List SliceKey) (listed : List Frame) (status : Status) (text : List ℕ)
       → ((key : SliceKey) → Contains keys key → length key.uuid ≡ 16) → ((frame : Frame) → Contains listed frame → IsKey frame.key)
       → AreToldAt lines slices (input ∷ []) (archive ∷ []) keys listed status text
       → Besides (input ∷ []) (archive ∷ []) (o ∷ []) lines slices keys listed status text
   alone lines slices keys listed status text long keyed by =
-      listed_told (input ∷ []) (archive ∷ []) (o ∷ []) lines by.all by.read (is, tt) keys long listed keyed
-      (λ frame there answer frames said. said_untied (input ∷ []) (archive ∷ []) (o ∷ []) (is, tt) (tells_alone o) by.all by.read lines frame.key
-      (keyed frame there) (none_tied (key_bytes frame.key) by.all (one_all by.all by.read)) (asked_of frame.load frame.address) answer frames said)
+      listed_told by.uuids (input ∷ []) (archive ∷ []) (o ∷ []) lines by.all by.read (is, tt) keys long listed by.asked keyed
+      (λ frame there answer frames said. said_untied (input ∷ []) (archive ∷ []) (o ∷ []) (is, tt) (tells_alone o) by.uuids by.all by.read lines frame.key
+      (keyed frame there) (asked_frame keys listed by.uuids by.asked frame there).under
+      (none_tied (key_bytes frame.key) by.all (one_all by.uuids by.all by.read)) (asked_of frame.load frame.address) answer frames said)
       slices status text by.told
 
   pub frames_alone : (lines slices : Bool) (listed : List Frame) (status : Status) (text : List ℕ)
@@ -509,26 +566,36 @@ module _ {I P : Type 0} (frames : List Frame) (inputs : List (Reader I)) (archiv
   pub untold_table : (indexes : List (Reader I)) (answering : List EntryAt) → IsUnreadTable indexes answering at why → IsDeviceFault why
   untold_table indexes answering u = subst IsDeviceFault (sym u.why_is) refl
 
-  pub untold_by_device : (lines slices : Bool) (os : List Operations) → AreIndexesGiven inputs os
-      → AreUntold lines slices frames inputs archives at why → IsDeviceFault why ⊎ IsForLines lines os keys at why
-  untold_by_device lines slices os are u = by slices u.untold.untold
+  pub untold_by_device : (lines slices : Bool) (asked_keys : List SliceKey) (uuids : List (List ℕ)) (os : List Operations)
+      → AreIndexesGiven inputs os → AreAskedUuids (asked_keys ++ frame_keys frames) uuids
+      → AreUntold lines slices uuids frames inputs archives at why → IsDeviceFault why ⊎ IsForLines lines os keys at why
+  untold_by_device lines slices asked_keys uuids os are asks u = by slices u.untold.untold
     where
       t : AreTextsOf inputs os
       t = texts_of inputs os are
 
-      indexes : AreIndexes os t.texts u.all
-      indexes = indexes_are inputs archives u.all u.read os t.texts t.given t.files
+      p : AreParts uuids os t.texts u.all
+      p = parts_are uuids inputs archives u.all u.read os t.texts t.given t.files
+
+      is_asked : IsAskedKey uuids u.untold.key
+      is_asked = asked_bytes asked_keys frames uuids asks u.untold.key u.untold.key_is
+
+      answers : AreAnsweringAmong u.untold.key p.whole u.untold.answering
+      answers = answering_whole uuids u.untold.key is_asked.short is_asked.under p.whole u.all p.parts u.untold.answering u.untold.are
 
       by : (wanted : Bool) → IsTableRefused lines wanted inputs u.untold.places u.untold.answering at why → IsDeviceFault why ⊎ IsForLines lines os keys at why
       by true unread = inl (untold_table inputs u.untold.answering unread)
-      by false (inl changed) = absurd (told.none_damaged os t.texts u.all indexes u.untold.key u.untold.answering changed.input
-          changed.number u.untold.are (changed.changed t.texts t.given))
-      by false (inr (inl lacking)) = inr (lacks_lines os t.texts u.all indexes lines u.untold.key keys u.untold.key_is at why u.untold.answering
-          lacking.input lacking.number u.untold.are lacking.wanted lacking.at_is lacking.why_is (lacking.lacks t.texts t.given))
+      by false (inl changed) = absurd (told.none_damaged os t.texts p.whole p.indexes u.untold.key u.untold.answering changed.input
+          changed.number answers (changed.changed t.texts t.given))
+      by false (inr (inl lacking)) = inr (lacks_lines os t.texts p.whole p.indexes lines u.untold.key keys u.untold.key_is at why u.untold.answering
+          lacking.input lacking.number answers lacking.wanted lacking.at_is lacking.why_is (lacking.lacks t.texts t.given))
       by false (inr (inr unread)) = inl (untold_table inputs u.untold.answering unread)
 
   pub asked_by_device : (lines slices : Bool) (os : List Operations) → AreOwnIndexes inputs archives os
       → AreRefusedAsking lines slices frames inputs archives at why → IsDeviceFault why ⊎ IsForLines lines os keys at why
-  asked_by_device lines slices os are (inl first) = inl (first_by_device keys inputs archives os at why are first)
-  asked_by_device lines slices os are (inr (inl unread)) = inl (later_by_device (unread.key ∷ []) inputs archives os at why are unread.refused)
-  asked_by_device lines slices os are (inr (inr untold)) = untold_by_device lines slices os (own_given inputs archives os are) untold
+  asked_by_device lines slices os are (asked_keys, uuids, asks, inl first) = inl (first_by_device uuids keys inputs archives os at why are first)
+  asked_by_device lines slices os are (asked_keys, uuids, asks, inr (inl unread)) =
+      let is_asked = asked_bytes asked_keys frames uuids asks unread.key unread.key_is in
+      inl (later_by_device uuids (unread.key ∷ []) inputs archives os at why are (is_asked.some, tt) unread.refused)
+  asked_by_device lines slices os are (asked_keys, uuids, asks, inr (inr untold)) =
+      untold_by_device lines slices asked_keys uuids os (own_given inputs archives os are) asks untold

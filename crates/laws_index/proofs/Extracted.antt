@@ -21,9 +21,11 @@ use Rattle.archive_core.proofs.Records.{length-admission_record, length-key_of, 
 use Rattle.archive_records.specs.Kind.{magic}
 use Rattle.archive_records.specs.Text.{end_record, written}
 use Rattle.index_format.specs.Entry.{offset_in}
+use Rattle.index_format.specs.Paged.{only}
+use Rattle.index_format.specs.Tree.{is_under_one}
 use Rattle.command_common.specs.Inputs.{IsGiven, Reader}
 use Rattle.command_common.specs.Outputs.{Writer}
-use Rattle.laws_index.specs.Indexes.{AreIndexes, DigestsDiffer, all_joined}
+use Rattle.laws_index.specs.Indexes.{AreIndexes, AreUnderOne, DigestsDiffer, all_joined}
 use Rattle.laws_index.proofs.Among.{IsOfSlice, admission_if, lives_if, slice_of_entry, entry_if_live, lives_then}
 use Rattle.laws_index.proofs.Joined.{joined_alone, tells_alone}
 use Rattle.laws_index.proofs.IndexesAreRight.{IsAnsweringSlice, slices_right, zip_empty, zip_through}
@@ -36,7 +38,8 @@ use Rattle.command_extract.proofs.Extracted.{wanted_alike, undecided_alike}
 use Rattle.laws_index.specs.Contents.{AreIndexed, AreOwnIndexes, IsIndexGiven, IsOwnIndex, AreIndexesGiven}
 use Rattle.laws_index.proofs.Accepted.{still_given, of_given, first_third}
 use Rattle.laws_index.proofs.ByIndex.{held_alike}
-use Rattle.laws_index.proofs.ByTables.{AreTextsOf, indexes_are, texts_of}
+use Rattle.laws_index.proofs.ByTables.{AreTextsOf, parts_are, texts_of}
+use Rattle.laws_index.proofs.Parts.{answering_whole, key_under, living_part, living_whole}
 use Rattle.std.specs.Prelude.{if◌then◌else◌, map}
 use Rattle.std.proofs.lemmas.Slice.Zip.{AllZip-long}
 use Rattle.sha2.specs.Sha256.{sha256}
@@ -136,6 +139,30 @@ under_key : (o : Operations) (key : SliceKey) (digest : Option Digest) (slice : 
 under_key o key None slice is = ((is.exactly slice).0 (in_front slice [])).live.under
 under_key o key (Some digest) slice is = is.0.under
 
+-- ---- what was read under the UUID of a key
+
+short_key : (key : SliceKey) → IsKey key → length (key_bytes key) ≤ 24
+short_key key is_key = omega (arith, length_key_bytes key is_key.uuid)
+
+own_uuid : (key : SliceKey) → AreUnderOne (key.uuid ∷ []) (key_bytes key)
+own_uuid key = key_under (key.uuid ∷ []) key (in_front key.uuid [])
+
+module _ (key : SliceKey) (is_key : IsKey key) (whole all : List (List (List ℕ)))
+    (parts : all ≡ map (only (is_under_one (key.uuid ∷ []))) whole) where
+  chosen_whole : (digest : Option Digest) (x : EntryAt) → IsChosen key digest all x → IsChosen key digest whole x
+  chosen_whole None x is =
+      answering_whole (key.uuid ∷ []) (key_bytes key) (short_key key is_key) (own_uuid key) whole all parts (x ∷ []) is
+  chosen_whole (Some digest) x is =
+      living_whole (key.uuid ∷ []) (key_bytes key) (short_key key is_key) (own_uuid key) whole all parts digest.0 x is
+
+  unchosen_whole : (digest : Option Digest) (xs : List EntryAt) → AreUnchosen key digest all xs → AreUnchosen key digest whole xs
+  unchosen_whole None xs are =
+      (answering_whole (key.uuid ∷ []) (key_bytes key) (short_key key is_key) (own_uuid key) whole all parts xs are.0, are.1)
+  unchosen_whole (Some digest) xs are = (
+    are.0,
+    λ x lives. are.1 x (living_part (key.uuid ∷ []) (key_bytes key) (short_key key is_key) (own_uuid key) whole all parts digest.0 x lives),
+  )
+
 module _ {I P : Type 0} (inputs : List (Reader I)) (archives : List (Reader P)) (os : List Operations) (own : AreOwnIndexes inputs archives os) where
   own_texts : AreTextsOf inputs os
   own_texts = texts_of inputs os (first_third IsOwnIndex IsIndexGiven inputs archives os (λ x y z is. is.0) own)
@@ -158,9 +185,10 @@ module _ {I P : Type 0} (inputs : List (Reader I)) (archives : List (Reader P)) 
       × (told ≡ slice_line slice)
   extracted_by_entry key digest slice told tell is_key makes =
       let from = makes.from in
-      let files = indexes_are inputs archives from.all from.read os own_texts.texts own_texts.given own_texts.files in
-      let wanted = wanted_of os own_texts.texts from.all key digest makes.x files is_key tell from.chosen in
-      let same = sent_is from.all from.later makes.x makes.archive wanted.0 slice from.are_later from.archive_is wanted.1 makes.holds in
+      let p = parts_are (key.uuid ∷ []) inputs archives from.all from.read os own_texts.texts own_texts.given own_texts.files in
+      let wanted = wanted_of os own_texts.texts p.whole key digest makes.x p.indexes is_key tell
+      (chosen_whole key is_key p.whole from.all p.parts digest makes.x from.chosen) in
+      let same = sent_is p.whole from.later makes.x makes.archive wanted.0 slice from.are_later from.archive_is wanted.1 makes.holds in
       let is = subst (IsWanted (all_joined os) key digest) (sym same) wanted.2 in
       (is, makes.told_is ∙ ap (λ (k : SliceKey). written_line k slice) (sym (under_key (all_joined os) key digest slice is)))
 
@@ -171,8 +199,8 @@ module _ {I P : Type 0} (inputs : List (Reader I)) (archives : List (Reader P)) 
   extracted_either key digest draft slice told tell is_key (inl makes) = extracted_by_entry key digest slice told tell is_key makes
   extracted_either key digest draft slice told tell is_key (inr (none, (held, told_is))) =
       let indexed = indexed_own inputs archives os own in
-      let short : length (key_bytes key) ≤ 24 = omega (arith, length_key_bytes key is_key.uuid) in
-      let alike = held_alike (key_bytes key ∷ []) inputs archives os held.0 (short, tt) indexed held.1 (key_bytes key) (0, omega arith, refl) in (
+      let alike = held_alike (key.uuid ∷ []) (key_bytes key ∷ []) inputs archives os held.0 ((short_key key is_key, own_uuid key), tt) indexed
+      held.1 (key_bytes key) (0, omega arith, refl) in (
         subst (λ (d : Option Digest). IsWanted (all_joined os) key d slice) (sym none)
             (wanted_alike held.0 (all_joined os) key alike None slice held.3),
         told_is,
@@ -263,17 +291,19 @@ module _ {I P : Type 0} (inputs : List (Reader I)) (archives : List (Reader P)) 
       → LacksEntry inputs archives key digest told → TellsUndecided (all_joined os) key digest told
   undecided_by_entries key digest told tell is_key lacks =
       let its_texts = texts_of inputs os given in
-      let files = indexes_are inputs archives lacks.all lacks.read os its_texts.texts its_texts.given its_texts.files in
-      undecided_of os its_texts.texts lacks.all key digest lacks.answering lacks.rows told files is_key tell lacks.are lacks.rows_are lacks.told_is
+      let p = parts_are (key.uuid ∷ []) inputs archives lacks.all lacks.read os its_texts.texts its_texts.given its_texts.files in
+      undecided_of os its_texts.texts p.whole key digest lacks.answering lacks.rows told p.indexes is_key tell
+      (unchosen_whole key is_key p.whole lacks.all p.parts digest lacks.answering lacks.are) lacks.rows_are lacks.told_is
 
   pub undecided_with_digest : (key : SliceKey) (digest : Digest) (told : List ℕ) → IsKey key
       → LacksEntry inputs archives key (Some digest) told → AreUndecided (all_joined os) key (Some digest) []
       × (told ≡ slices_text [])
   undecided_with_digest key digest told is_key lacks =
       let its_texts = texts_of inputs os given in
-      let files = indexes_are inputs archives lacks.all lacks.read os its_texts.texts its_texts.given its_texts.files in
+      let p = parts_are (key.uuid ∷ []) inputs archives lacks.all lacks.read os its_texts.texts its_texts.given its_texts.files in
+      let are = unchosen_whole key is_key p.whole lacks.all p.parts (Some digest) lacks.answering lacks.are in
       let no_rows = zip_empty IsRowAt lacks.answering lacks.rows lacks.are.0 lacks.rows_are in
-      ((refl, none_live os its_texts.texts lacks.all key digest files is_key lacks.are.1), lacks.told_is ∙ ap find_lines no_rows)
+      ((refl, none_live os its_texts.texts p.whole key digest p.indexes is_key are.1), lacks.told_is ∙ ap find_lines no_rows)
 
 -- also where entries are tied
 pub undecided_either : {I P : Type 0} (inputs : List (Reader I)) (archives : List (Reader P)) (os : List Operations)
@@ -284,8 +314,8 @@ undecided_either inputs archives os key digest draft told own tell is_key (inl l
     undecided_by_entries inputs archives os (first_third IsOwnIndex IsIndexGiven inputs archives os (λ x y z is. is.0) own) key digest told tell is_key lacks
 undecided_either inputs archives os key digest draft told own tell is_key (inr (none, (slices, held, told_is))) =
     let indexed = indexed_own inputs archives os own in
-    let short : length (key_bytes key) ≤ 24 = omega (arith, length_key_bytes key is_key.uuid) in
-    let alike = held_alike (key_bytes key ∷ []) inputs archives os held.0 (short, tt) indexed held.1 (key_bytes key) (0, omega arith, refl) in
+    let alike = held_alike (key.uuid ∷ []) (key_bytes key ∷ []) inputs archives os held.0 ((short_key key is_key, own_uuid key), tt) indexed
+    held.1 (key_bytes key) (0, omega arith, refl) in
     record {
       slices = slices;
       undecided = subst (λ (d : Option Digest). AreUndecided (all_joined os) key d slices) (sym none)

@@ -224,24 +224,24 @@ module _ (prefix : List ℕ) (o : Operations) (short : length prefix ≤ 24) (co
   up = ascend_placed 8 rs (is_under prefix) records_are (omega (arith, fits, text_length o))
 
   -- the same entries
-  members : (q : List ℕ) → list_any (is_same q) (entries_under prefix (index o)) ≡ list_any (is_same q) placed_under
+  members : (q : List ℕ) → list_any (is_same q) (entries_under prefix (listing (index o))) ≡ list_any (is_same q) placed_under
   unfolding index
   members q =
       any_passed (is_under prefix) q (listing (index o))
       ∙ ap (λ (b : Bool). b && is_under prefix q) (any_listing nat_list_cmp_total (index o) q ∙ contains-from_list nat_list_cmp_total (placed_entries 8 rs) q)
       ∙ sym (any_passed (is_under prefix) q (placed_entries 8 rs))
 
-  at_most_once : (t : ℕ) → count offset_in t (entries_under prefix (index o)) ≤ 1
-  at_most_once = once offset_in (entries_under prefix (index o))
+  at_most_once : (t : ℕ) → count offset_in t (entries_under prefix (listing (index o))) ≤ 1
+  at_most_once = once offset_in (entries_under prefix (listing (index o)))
       (subst (IsStrictlySortedBy order) (listing_retain nat_list_cmp_total bytes_same (is_under prefix) (index o))
       (listed nat_list_cmp_total bytes_same (set.retain (index o) (is_under prefix))).ascending)
       (λ p q in_p in_q same. one_of_number offset_in placed_under p q up (sym (members p) ∙ in_p) (sym (members q) ∙ in_q) same)
 
-  pub rows_of_index : (rows : List FindRow) → AreIndexRows prefix (index o) rows → IsList (part o (is_under prefix)) rows
+  pub rows_of_index : (rows : List FindRow) → AreIndexRows prefix (listing (index o)) rows → IsList (part o (is_under prefix)) rows
   rows_of_index rows is =
-      let sorted = ascend_sorted offset_in (entries_under prefix (index o)) is.placed is.moved is.by_offset at_most_once in
+      let sorted = ascend_sorted offset_in (entries_under prefix (listing (index o))) is.placed is.moved is.by_offset at_most_once in
       let same : is.placed ≡ placed_under = one_ascent offset_in is.placed placed_under sorted up (λ q.
-      sym (list_any-IsPermutation (is_same q) (entries_under prefix (index o)) is.placed is.moved) ∙ members q) in
+      sym (list_any-IsPermutation (is_same q) (entries_under prefix (listing (index o))) is.placed is.moved) ∙ members q) in
       let told : AllZip IsEntryRow placed_under is.told = subst (λ (es : List (List ℕ)). AllZip IsEntryRow es is.told) same is.each in
       let of : AreRowsOf (filter (is_under prefix) rs) is.told =
       rows_of_entries placed_under (filter (is_under prefix) rs) is.told (of_under prefix short 8 rs keyed_are) told
@@ -263,7 +263,7 @@ whole_part o = same_set nat_list_cmp_total bytes_same (part o (is_under [])) o
     (λ q. contains_part o (is_under []) q ∙ and_true (set.contains o q) (is_under [] q) (all_under q))
 
 pub list_of_index : (o : Operations) (rows : List FindRow) → IsContent o → HaveKeys o → length (written o) < 2 ^ 64
-    → AreIndexRows [] (index o) rows → IsList o rows
+    → AreIndexRows [] (listing (index o)) rows → IsList o rows
 list_of_index o rows content keys fits is = subst (λ (p : Operations). IsList p rows) (whole_part o)
     (rows_of_index [] o (omega arith) content keys fits rows is)
 
@@ -328,5 +328,5 @@ module _ (o : Operations) (uuid : List ℕ) (long : length uuid ≡ 16) where
   })
 
 pub found_of_index : (o : Operations) (uuid : List ℕ) (rows : List FindRow) → length uuid ≡ 16 → IsContent o
-    → HaveKeys o → length (written o) < 2 ^ 64 → AreIndexRows uuid (index o) rows → IsFinds o uuid rows
+    → HaveKeys o → length (written o) < 2 ^ 64 → AreIndexRows uuid (listing (index o)) rows → IsFinds o uuid rows
 found_of_index o uuid rows long content keys fits is = found_of_list o uuid long rows (rows_of_index uuid o (omega arith) content keys fits rows is)

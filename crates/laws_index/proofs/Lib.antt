@@ -5,9 +5,12 @@ pub mod IndexesAreRight
 pub mod OtherBytes
 pub mod Ascent
 pub mod IndexRows
+pub mod PlacedIndex
+pub mod Parts
 pub mod Accepted
 pub mod ByIndex
 pub mod AnsweringRows
+pub mod PartRows
 pub mod ByTables
 pub mod FrameKeys
 pub mod OneRefusal

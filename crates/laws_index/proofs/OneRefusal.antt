@@ -1,5 +1,5 @@
 -- Two calls by the indexes of the same contents refuse one of them, for one reason.
-use Rattle.std.proofs.Common.{◌≡◌, ◌⊎◌, ℕ, ◌<◌, Bool, true, false, List, [], ◌∷◌, ◌++◌, length, Contains, Some, refl, sym, ap, ◌∙◌, subst}
+use Rattle.std.proofs.Common.{◌≡◌, ◌⊎◌, ℕ, ◌<◌, Bool, true, false, List, [], ◌∷◌, ◌++◌, Contains, Some, refl, sym, ap, ◌∙◌, subst}
 use Rattle.std.proofs.Common.{arith, drop, inl, inr}
 use Rattle.std.specs.Prelude.{slice_get}
 use Rattle.std.specs.Cmp.{tied_itself}
@@ -41,13 +41,15 @@ use Rattle.command_common.specs.declared.faults.InputName.{InputName}
 use Rattle.command_common.specs.declared.faults.InputName.TheVariants.{Index}
 use Rattle.command_common.specs.declared.faults.Why.{Why}
 use Rattle.command_common.specs.declared.faults.Why.TheVariants.{NoLines}
+use Rattle.command_queries.specs.Frames.{frame_keys}
 use Rattle.command_queries.specs.Symbolicate.{asked_of}
-use Rattle.command_frames.specs.Asking.{AreGiven, AreRefusedAsking, AreUntold, HavePlaces, IsAnsweredAt, IsTableRefused, keys_of}
-use Rattle.laws_index.specs.Contents.{AreIndexesGiven, AreOwnIndexes}
+use Rattle.command_frames.specs.Asking.{AreAskedUuids, AreGiven, AreRefusedAsking, AreUntold, HavePlaces, IsAnsweredAt, IsTableRefused, keys_of}
+use Rattle.laws_index.specs.Contents.{AreOwnIndexes}
 use Rattle.laws_index.specs.Indexes.{AreIndexes, DigestsDiffer, IsIndexFile}
 use Rattle.laws_index.proofs.Accepted.{first_by_device, later_by_device}
-use Rattle.laws_index.proofs.Among.{IsOfSlice, listed_at}
-use Rattle.laws_index.proofs.ByTables.{AreTextsOf, indexes_are, own_given, texts_of, untold_table}
+use Rattle.laws_index.proofs.Among.{IsOfSlice}
+use Rattle.laws_index.proofs.ByTables.{IsAskedKey, asked_bytes, asked_frame, own_given, parts_are, texts_of, untold_table}
+use Rattle.laws_index.proofs.Parts.{AreParts, answering_whole, tied_whole, told_whole}
 use Rattle.laws_index.proofs.IndexesAreRight as right
 use Rattle.laws_index.proofs.IndexesAreRight.{IsAnsweringSlice, zip_left}
 
@@ -310,42 +312,58 @@ record IsLinelessOf (frames : List Frame) (texts : List (List ℕ)) (at : InputN
 module _ {I P : Type 0} (inputs : List (Reader I)) (archives : List (Reader P)) (os : List Operations) (lines slices : Bool)
     (frames : List Frame) (at : InputName) (why : Why) (are : AreOwnIndexes inputs archives os) (known : IsDeviceFault why → ⊥)
     (texts : List (List ℕ)) (given : AreGiven inputs texts) (files : AllZip IsIndexFile os texts) where
-  lineless_untold : AreUntold lines slices frames inputs archives at why → IsLinelessOf frames texts at why
-  lineless_untold u = by slices refl u.untold.untold
+  lineless_untold : (keys : List SliceKey) (uuids : List (List ℕ)) → AreAskedUuids (keys ++ frame_keys frames) uuids
+      → AreUntold lines slices uuids frames inputs archives at why → IsLinelessOf frames texts at why
+  lineless_untold keys uuids asks u = by slices refl u.untold.untold
     where
-      indexes : AreIndexes os texts u.all
-      indexes = indexes_are inputs archives u.all u.read os texts given files
+      p : AreParts uuids os texts u.all
+      p = parts_are uuids inputs archives u.all u.read os texts given files
 
-      answered : (frame : Frame) (key : SliceKey) (answer : AnswerRecord) (shown : List (List FrameRecord)) → lines ≡ true
+      is_asked : (frame : Frame) → Contains frames frame → IsAskedKey uuids (key_bytes frame.key)
+      is_asked frame there = asked_frame keys frames uuids asks frame there
+
+      own : IsAskedKey uuids u.untold.key
+      own = asked_bytes keys frames uuids asks u.untold.key u.untold.key_is
+
+      answers : AreAnsweringAmong u.untold.key p.whole u.untold.answering
+      answers = answering_whole uuids u.untold.key own.short own.under p.whole u.all p.parts u.untold.answering u.untold.are
+
+      answered : (frame : Frame) (key : SliceKey) (answer : AnswerRecord) (shown : List (List FrameRecord)) → Contains frames frame → lines ≡ true
           → key_bytes key ≡ key_bytes frame.key
           → IsAnsweredAt (AreGiven inputs) archives u.all lines key (asked_of frame.load frame.address) answer shown
           → ((answer : AnswerRecord) × (shown : List (List FrameRecord))
-          × IsAnswerAmong texts u.all (key_bytes frame.key) true (asked_of frame.load frame.address) answer shown)
-          ⊎ AreTied (key_bytes frame.key) u.all
-      answered frame key answer shown wanted same (inl is) = inl (
-        answer,
-        shown,
-        subst (λ (l : Bool). IsAnswerAmong texts u.all (key_bytes frame.key) l (asked_of frame.load frame.address) answer shown) wanted
-            (subst (λ (b : List ℕ). IsAnswerAmong texts u.all b lines (asked_of frame.load frame.address) answer shown) same (is.answer_is texts given)),
-      )
-      answered frame key answer shown wanted same (inr is) = inr (subst (λ (b : List ℕ). AreTied b u.all) same is.tied)
+          × IsAnswerAmong texts p.whole (key_bytes frame.key) true (asked_of frame.load frame.address) answer shown)
+          ⊎ AreTied (key_bytes frame.key) p.whole
+      answered frame key answer shown there wanted same (inl is) =
+          let asked = is_asked frame there in
+          inl (
+            answer,
+            shown,
+            told_whole uuids (key_bytes frame.key) asked.short asked.under p.whole u.all p.parts texts true (asked_of frame.load frame.address) answer shown
+                (subst (λ (l : Bool). IsAnswerAmong texts u.all (key_bytes frame.key) l (asked_of frame.load frame.address) answer shown) wanted
+                (subst (λ (b : List ℕ). IsAnswerAmong texts u.all b lines (asked_of frame.load frame.address) answer shown) same (is.answer_is texts given))),
+          )
+      answered frame key answer shown there wanted same (inr is) =
+          let asked = is_asked frame there in
+          inr (tied_whole uuids (key_bytes frame.key) asked.short asked.under p.whole u.all p.parts
+          (subst (λ (b : List ℕ). AreTied b u.all) same is.tied))
 
       by : (wanted : Bool) → slices ≡ wanted → IsTableRefused lines wanted inputs u.untold.places u.untold.answering at why
           → IsLinelessOf frames texts at why
       by true is unread = absurd (known (untold_table frames inputs archives at why inputs u.untold.answering unread))
-      by false is (inl changed) = absurd (right.none_damaged os texts u.all indexes u.untold.key u.untold.answering changed.input
-          changed.number u.untold.are (changed.changed texts given))
+      by false is (inl changed) = absurd (right.none_damaged os texts p.whole p.indexes u.untold.key u.untold.answering changed.input
+          changed.number answers (changed.changed texts given))
       by false is (inr (inr unread)) = absurd (known (untold_table frames inputs archives at why inputs u.untold.answering unread))
       by false is (inr (inl lacking)) = record {
-        all = u.all;
-        read = indexes.read;
+        all = p.whole;
+        read = p.indexes.read;
         call = record {
           key = u.untold.key;
           key_is = u.untold.key_is;
           places = u.untold.places;
           of_frames = u.of_frames;
           answering = u.untold.answering;
-          are = u.untold.are;
+          are = answers;
           input = lacking.input;
           number = lacking.number;
           at_is = lacking.at_is;
@@ -355,14 +373,16 @@ module _ {I P : Type 0} (inputs : List (Reader I)) (archives : List (Reader P)) 
               (lacking.first texts given);
           below = λ frame there less.
               let has = u.before is frame there less in
-              answered frame has.key has.answer has.frames lacking.wanted has.key_is has.answered;
+              answered frame has.key has.answer has.frames there lacking.wanted has.key_is has.answered;
         };
       }
 
   lineless_call : AreRefusedAsking lines slices frames inputs archives at why → IsLinelessOf frames texts at why
-  lineless_call (inl first) = absurd (known (first_by_device (keys_of frames) inputs archives os at why are first))
-  lineless_call (inr (inl unread)) = absurd (known (later_by_device (unread.key ∷ []) inputs archives os at why are unread.refused))
-  lineless_call (inr (inr untold)) = lineless_untold untold
+  lineless_call (keys, uuids, asks, inl first) = absurd (known (first_by_device uuids (keys_of frames) inputs archives os at why are first))
+  lineless_call (keys, uuids, asks, inr (inl unread)) =
+      let asked = asked_bytes keys frames uuids asks unread.key unread.key_is in
+      absurd (known (later_by_device uuids (unread.key ∷ []) inputs archives os at why are (asked.some, tt) unread.refused))
+  lineless_call (keys, uuids, asks, inr (inr untold)) = lineless_untold keys uuids asks untold
 
 module _ (one_table : (image bytes others : List ℕ) → IsSliceTable image bytes → IsSliceTable image others → bytes ≡ others)
     (os : List Operations) (tell : DigestsDiffer os) (frames : List Frame) (keyed : (frame : Frame) → Contains frames frame → IsKey frame.key)

@@ -5,10 +5,12 @@ use Rattle.std.specs.FinSet as set
 use Rattle.sha2.specs.Sha256.{sha256}
 use Rattle.archive_core.specs.Content.{IsAnswering, IsContent, Operations, joined}
 use Rattle.archive_core.specs.Key.{IsKey, key_bytes}
+use Rattle.archive_core.specs.Part.{is_under}
 use Rattle.archive_core.specs.Record.{admission_record}
 use Rattle.archive_core.specs.declared.keys.SliceKey.{SliceKey}
 use Rattle.archive_records.specs.Text.{written}
 use Rattle.index_format.specs.Text.{IsIndexText}
+use Rattle.index_format.specs.Tree.{is_under_one}
 use Rattle.index_build.specs.Content.{HasByteSlices, IsIndexOf}
 
 -- the text is the index of a content of byte strings, and neither it nor the archive has 2^64 bytes
@@ -59,3 +61,7 @@ pub record AreTiedSlices (os : List Operations) (key : SliceKey) : Type 0 where
   pub numbers : number ≢ other_number
   pub lengths : length one ≡ length other
   pub differ : one ≢ other
+
+-- each entry under this prefix is under one of these UUIDs
+abbrev pub AreUnderOne : List (List ℕ) → List ℕ → Type 0
+AreUnderOne uuids prefix = (e : List ℕ) → is_under prefix e ≡ true → is_under_one uuids e ≡ true

@@ -1,8 +1,8 @@
 //! Laws of the commands with the indexes of contents. Each law is a function with an empty body, and its contract the
 //! law.
 
-ghost use Rattle.std.specs.Prelude.{◌≡◌, ◌≤◌, ◌<◌, ◌^◌, ◌⊎◌, ◌∷◌, [], ℕ, List, Bool, Option, Contains, Ok, length};
-ghost use Rattle.std.specs.Prelude.{Some, true};
+ghost use Rattle.std.specs.Prelude.{◌≡◌, ◌≤◌, ◌<◌, ◌^◌, ◌⊎◌, ◌∷◌, ◌++◌, [], ℕ, List, Bool, Option, Contains, Ok};
+ghost use Rattle.std.specs.Prelude.{Some, length, true};
 ghost use Rattle.std.specs.List.{AllByRecursion};
 ghost use Rattle.archive_core.specs.Content.{IsContent, Operations};
 ghost use Rattle.archive_core.specs.Key.{IsKey, key_bytes};
@@ -11,6 +11,7 @@ ghost use Rattle.archive_core.specs.declared.lookup.Where.{Where};
 ghost use Rattle.dwarf_source_frames.specs.Frames.{FrameRecord};
 ghost use Rattle.archive_core.specs.Lists.{IsList};
 ghost use Rattle.archive_core.specs.Part.{AreAlikeUnder, is_under, part};
+ghost use Rattle.join_core.specs.Listing.{listing};
 ghost use Rattle.archive_core.specs.Summary.{summary};
 ghost use Rattle.archive_core.specs.declared.find.FindRow.{FindRow};
 ghost use Rattle.archive_core.specs.declared.keys.Digest.{Digest};
@@ -29,15 +30,15 @@ ghost use Rattle.command_common.specs.declared.faults.InputName.{InputName};
 ghost use Rattle.command_common.specs.declared.faults.Status.{Status};
 ghost use Rattle.command_common.specs.declared.faults.Why.{Why};
 ghost use Rattle.index_build.specs.Index.{MakesIndex};
-ghost use Rattle.laws_index.specs.Indexes.{AreTiedSlices, DigestsDiffer, IsIndexFile, all_joined};
+ghost use Rattle.laws_index.specs.Indexes.{AreTiedSlices, AreUnderOne, DigestsDiffer, IsIndexFile, all_joined};
 ghost use Rattle.command_given_indexes.specs.Find.{find_at, find_together};
-ghost use Rattle.command_given_indexes.specs.Indexes.{IsRefusedByIndex};
+ghost use Rattle.command_given_indexes.specs.Indexes.{IsRefusedByIndex, IsRefusedByPart};
 ghost use Rattle.command_given_indexes.specs.List.{list_at};
 ghost use Rattle.command_given_indexes.specs.Rows.{AreIndexRows};
 ghost use Rattle.command_given_indexes.specs.Several.{AreRefusedTogether, HoldTogether};
 ghost use Rattle.command_given_indexes.specs.Summary.{summary_at};
 ghost use Rattle.command_given_indexes.specs.Together.{AreReadWith};
-ghost use Rattle.command_frames.specs.Asking.{AreRefusedAsking, AreUntold, IsAnsweredBySlices, keys_of};
+ghost use Rattle.command_frames.specs.Asking.{AreAskedUuids, AreRefusedAsking, AreUntold, IsAnsweredBySlices, keys_of};
 ghost use Rattle.command_frames.specs.Frames.{AreToldAt, symbolicate_at};
 ghost use Rattle.command_frames.specs.Refusals.{IsKeyRefused, KeyRefusal};
 ghost use Rattle.command_extract.specs.Indexed.{LacksEntry, MakesEntry, extract_at};
@@ -63,7 +64,7 @@ pub fn made_index_is_of_a_content<R: Source>()
 /// assumption about SHA-256, and no archive is read. A content with an index file has the keys that this requires.
 pub fn rows_of_index()
     ensures rows { (prefix : List ℕ) (o : Operations) (rows : List FindRow) → length prefix ≤ 24 → IsContent o
-        → HaveKeys o → length (written o) < 2 ^ 64 → AreIndexRows prefix (index o) rows
+        → HaveKeys o → length (written o) < 2 ^ 64 → AreIndexRows prefix (listing (index o)) rows
         → IsList (part o (is_under prefix)) rows }
     ensures keys { (o : Operations) (text : List ℕ) → IsIndexFile o text → HaveKeys o }
 {}
@@ -94,19 +95,25 @@ pub fn right_index_is_accepted<I: Placed, P: Placed>()
     ensures alone { (number : ℕ) (input : Reader I) (archive : Reader P) (o : Operations) (at : InputName) (why : Why)
         → IsIndexGiven input o → IsGiven archive (written o) → IsRefusedByIndex number input archive at why
         → IsDeviceFault why }
-    ensures together { (prefixes : List (List ℕ)) (inputs : List (Reader I)) (archives : List (Reader P))
+    ensures part { (uuids : List (List ℕ)) (number : ℕ) (input : Reader I) (archive : Reader P) (o : Operations)
+        (at : InputName) (why : Why) → IsIndexGiven input o → IsGiven archive (written o)
+        → IsRefusedByPart uuids number input archive at why → IsDeviceFault why }
+    ensures together { (uuids prefixes : List (List ℕ)) (inputs : List (Reader I)) (archives : List (Reader P))
         (os : List Operations) (at : InputName) (why : Why) → AreOwnIndexes inputs archives os
-        → AreRefusedTogether prefixes inputs archives at why → IsDeviceFault why }
+        → AllByRecursion (λ prefix. 0 < length prefix) prefixes
+        → AreRefusedTogether uuids prefixes inputs archives at why → IsDeviceFault why }
 {}
 
 /// If each INDEX is that of a content, the content held under prefixes of keys has the records of the join of these
-/// contents there. Each ARCHIVE is the text of its content, and there is no assumption about SHA-256; or it has any
-/// bytes, and no slice of the content has the SHA-256 of a different slice in these.
+/// contents there, if these keys have UUIDs whose entries were read. Each ARCHIVE is the text of its content, and there
+/// is no assumption about SHA-256; or it has any bytes, and no slice of the content has the SHA-256 of a different one
+/// in these.
 pub fn held_by_indexes<I: Placed, P: Placed>()
-    ensures { (prefixes : List (List ℕ)) (inputs : List (Reader I)) (archives : List (Reader P)) (os : List Operations)
-        (p : Operations) → AllByRecursion (λ prefix. length prefix ≤ 24) prefixes → AreIndexed inputs archives os
-        → HoldTogether prefixes inputs archives p → (prefix : List ℕ) → Contains prefixes prefix
-        → AreAlikeUnder prefix p (all_joined os) }
+    ensures { (uuids prefixes : List (List ℕ)) (inputs : List (Reader I)) (archives : List (Reader P))
+        (os : List Operations) (p : Operations)
+        → AllByRecursion (λ prefix. (length prefix ≤ 24) × AreUnderOne uuids prefix) prefixes
+        → AreIndexed inputs archives os → HoldTogether uuids prefixes inputs archives p → (prefix : List ℕ)
+        → Contains prefixes prefix → AreAlikeUnder prefix p (all_joined os) }
 {}
 
 /// So `find` over several archives has the report of the join of the contents.
@@ -134,10 +141,11 @@ pub fn answered_by_indexes<I: Placed, P: Placed>()
         → TellsAddressesWith o key load lines slices addresses status text
         ⊎ ((slices ≡ true) × TellsFramesBesides lines (archive ∷ []) (o ∷ []) (key ∷ [])
         (frames_under_key key load addresses) status text) }
-    ensures slices { (inputs : List (Reader I)) (archives : List (Reader P)) (os : List Operations)
-        (all : List (List (List ℕ))) (lines : Bool) (key : SliceKey) (asked : Where) (answer : AnswerRecord)
-        (frames : List (List FrameRecord)) → length (key_bytes key) ≤ 24 → AreIndexed inputs archives os
-        → AreReadWith inputs archives all → IsAnsweredBySlices archives all lines key asked answer frames
+    ensures slices { (uuids : List (List ℕ)) (inputs : List (Reader I)) (archives : List (Reader P))
+        (os : List Operations) (all : List (List (List ℕ))) (lines : Bool) (key : SliceKey) (asked : Where)
+        (answer : AnswerRecord) (frames : List (List FrameRecord)) → length (key_bytes key) ≤ 24
+        → AreUnderOne uuids (key_bytes key) → AreIndexed inputs archives os → AreReadWith uuids inputs archives all
+        → IsAnsweredBySlices archives all lines key asked answer frames
         → IsAnswerWithFrames (all_joined os) key lines asked answer frames }
     ensures either { (inputs : List (Reader I)) (archives : List (Reader P)) (os : List Operations) (key : SliceKey)
         (load : Option ℕ) (lines slices : Bool) (addresses : List ℕ) (status : Status) (text : List ℕ)
@@ -215,18 +223,20 @@ pub fn undecided_by_indexes<I: Placed, P: Placed>()
 /// that answers under a key of the frames and has none, for any bytes of the archives. By the indexes of these very
 /// archives this holds for all refusals, and a key is refused alone only for such a slice.
 pub fn undamaged_by_indexes<I: Placed, P: Placed>()
-    ensures tables { (lines slices : Bool) (frames : List Frame) (inputs : List (Reader I))
-        (archives : List (Reader P)) (os : List Operations) (at : InputName) (why : Why) → AreIndexesGiven inputs os
-        → AreUntold lines slices frames inputs archives at why
+    ensures tables { (lines slices : Bool) (keys : List SliceKey) (uuids : List (List ℕ)) (frames : List Frame)
+        (inputs : List (Reader I)) (archives : List (Reader P)) (os : List Operations) (at : InputName) (why : Why)
+        → AreIndexesGiven inputs os → AreAskedUuids (keys ++ frame_keys frames) uuids
+        → AreUntold lines slices uuids frames inputs archives at why
         → IsDeviceFault why ⊎ IsForLines lines os (keys_of frames) at why }
     ensures asked { (lines slices : Bool) (frames : List Frame) (inputs : List (Reader I)) (archives : List (Reader P))
         (os : List Operations) (at : InputName) (why : Why) → AreOwnIndexes inputs archives os
         → AreRefusedAsking lines slices frames inputs archives at why
         → IsDeviceFault why ⊎ IsForLines lines os (keys_of frames) at why }
-    ensures key { (lines : Bool) (frames : List Frame) (inputs : List (Reader I)) (archives : List (Reader P))
-        (os : List Operations) (all : List (List (List ℕ))) (refusal : KeyRefusal) → AreOwnIndexes inputs archives os
-        → AreReadWith inputs archives all → IsKeyRefused lines frames inputs archives all refusal
-        → IsRefusedForLines lines os refusal }
+    ensures key { (lines : Bool) (keys : List SliceKey) (uuids : List (List ℕ)) (frames : List Frame)
+        (inputs : List (Reader I)) (archives : List (Reader P)) (os : List Operations) (all : List (List (List ℕ)))
+        (refusal : KeyRefusal) → AreOwnIndexes inputs archives os → AreAskedUuids (keys ++ frame_keys frames) uuids
+        → Contains (keys_of frames) (key_bytes refusal.key) → AreReadWith uuids inputs archives all
+        → IsKeyRefused lines frames inputs archives all refusal → IsRefusedForLines lines os refusal }
 {}
 
 /// Two calls for the same frames, by the indexes of these very archives, with the same contents, refuse the same input

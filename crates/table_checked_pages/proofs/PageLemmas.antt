@@ -1,6 +1,6 @@
 -- Pages of bytes that are stored in a text.
 use Rattle.std.proofs.Common.{◌≡◌, ℕ, ◌+◌, ◌-◌, ◌*◌, ◌/◌, ◌%◌, ◌<◌, ◌≤◌, List, length, take, drop, ◌++◌, refl, sym, ap, ◌∙◌}
-use Rattle.std.proofs.Common.{subst, arith, length-take, length-append, min, inl, inr, zero, suc, [], ◌∷◌, ◌≢◌, set}
+use Rattle.std.proofs.Common.{subst, arith, length-drop, length-take, length-append, min, inl, inr, zero, suc, [], ◌∷◌, ◌≢◌, set}
 use Rattle.std.specs.Prelude.{slice_index_or}
 use Rattle.std.proofs.lemmas.List.{append-nil, append_assoc, get_or-set_other, get_or-set_same, drop-drop, drop-take, take-take, take_all, take_at, drop_at}
 use Rattle.std.proofs.lemmas.Bool.{cases_eq, cases_lt}
@@ -163,6 +163,67 @@ may_be text all claim are = record {
 -- what is stored lies within the text
 pub lies_within : (text all : List ℕ) (claim : Claim) → AreStored text claim all → claim.offset + digests_size claim.size + claim.size ≤ length text
 lies_within text all claim are = omega (arith, length-stored all, ap (λ s. digests_size s) are.size, are.size, are.within)
+
+-- ---- all bytes of a claim
+
+-- what stands before the same bytes
+pub same_before : (a b c : List ℕ) → a ++ c ≡ b ++ c → a ≡ b
+same_before a b c e =
+    let long : length a ≡ length b = omega (arith, ap length e, length-append a c, length-append b c) in
+    sym (take_at a c (length a) refl) ∙ (λ i. take (long i) (e i)) ∙ take_at b c (length b) refl
+
+-- bytes that are in a text after their digests, and have the root, are stored there
+pub all_stored : (text digests bytes : List ℕ) (claim : Claim) → length digests ≡ digests_size claim.size → length bytes ≡ claim.size
+    → digests ≡ take (digests_size claim.size) (drop claim.offset text)
+    → bytes ≡ take claim.size (drop (claim.offset + digests_size claim.size) text)
+    → stored bytes ≡ digests ++ bytes → root_of bytes ≡ claim.root → claim.offset ≤ length text → AreStored text claim bytes
+all_stored text digests bytes claim long size before these are root inside =
+    let d : ℕ = digests_size claim.size in
+    let rest : List ℕ = drop (claim.offset + d) text in
+    let count : length (stored bytes) ≡ d + claim.size = length-stored bytes ∙ ap (λ n. digests_size n + n) size in
+    record {
+      size = size;
+      root = root;
+      within = omega (
+        arith,
+        count,
+        long,
+        size,
+        ap length before,
+        length-take d (drop claim.offset text),
+        length-drop claim.offset text,
+        ap length these,
+        length-take claim.size rest,
+        length-drop (claim.offset + d) text,
+        inside,
+      );
+      bytes = ap (λ n. take n (drop claim.offset text)) count ∙ take-add d claim.size (drop claim.offset text)
+          ∙ ap (λ (xs : List ℕ). take d (drop claim.offset text) ++ take claim.size xs) (drop-drop d claim.offset text)
+          ∙ (λ i. sym before i ++ sym these i) ∙ sym are;
+    }
+
+-- stored bytes are in the text after their digests
+pub bytes_stand : (text all : List ℕ) (claim : Claim) → AreStored text claim all
+    → take claim.size (drop (claim.offset + digests_size claim.size) text) ≡ all
+bytes_stand text all claim are = subst (λ (n : ℕ). take n (drop (claim.offset + digests_size n) text) ≡ all) are.size
+    (level_after (height (length all)) text all claim.offset are.bytes)
+
+-- bytes that are in a text where others are stored, after their digests, are these
+pub all_refused : (text digests bytes all : List ℕ) (claim : Claim)
+    → digests ≡ take (digests_size claim.size) (drop claim.offset text)
+    → bytes ≡ take claim.size (drop (claim.offset + digests_size claim.size) text) → AreStored text claim all
+    → (stored bytes ≡ digests ++ bytes → root_of bytes ≡ claim.root → ⊥) → ⊥
+all_refused text digests bytes all claim before these are refused =
+    let d : ℕ = digests_size claim.size in
+    let there : take claim.size (drop (claim.offset + d) text) ≡ all = bytes_stand text all claim are in
+    let same : bytes ≡ all = these ∙ there in
+    let count : length (stored all) ≡ d + claim.size = length-stored all ∙ ap (λ n. digests_size n + n) are.size in
+    let whole : stored all ≡ digests ++ all =
+    sym are.bytes ∙ ap (λ n. take n (drop claim.offset text)) count ∙ take-add d claim.size (drop claim.offset text)
+    ∙ ap (λ (xs : List ℕ). take d (drop claim.offset text) ++ take claim.size xs) (drop-drop d claim.offset text)
+    ∙ (λ i. sym before i ++ there i) in
+    refused (ap (λ (b : List ℕ). stored b) same ∙ whole ∙ ap (λ (b : List ℕ). digests ++ b) (sym same))
+    (ap (λ (b : List ℕ). root_of b) same ∙ are.root)
 
 -- ---- the digest of a page
 

@@ -1,7 +1,7 @@
 -- What a call says that reads stored bytes, said otherwise.
-use Rattle.std.proofs.Common.{◌∙◌, ◌≡◌, ℕ, List, IsErrAnd, ap, refl, sym, subst}
+use Rattle.std.proofs.Common.{◌∙◌, ◌≡◌, ◌≢◌, ℕ, List, IsErrAnd, ap, refl, sym, subst}
 use Rattle.std.proofs.lemmas.Result.{err_from_is_err_and}
-use Rattle.std.specs.Prelude.{Option, Some, Result, Ok, Err, MatchResult}
+use Rattle.std.specs.Prelude.{Option, Some, Result, Ok, Err, IfErr, IfOk, MatchResult}
 use Rattle.table_checked_pages.specs.Reading.{Blames, IsRefused, ReadsStored}
 use Rattle.table_checked_pages.specs.declared.fault.CheckFault.{CheckFault}
 use Rattle.table_checked_pages.specs.declared.fault.CheckFault.TheVariants.{Changed, Device, OutOfMemory}
@@ -69,3 +69,17 @@ unread whole failures device f s A B is changed absent =
     let p = err_from_is_err_and s is in
     subst (λ t. ReadsStored whole failures device device t A B) (sym (p.1 ∙ ap Err (p.2 ∙ changed)))
     (record { says = absent; keeps = refl; counts = refl })
+
+-- what was read is compared
+pub compared : {D T : Type 0} (whole : D → Option (List ℕ)) (failures : D → ℕ) (old new : D) (r : Result T CheckFault)
+    (P : T → Type 0) (Q : CheckFault → Type 0) (A : List ℕ → T → Type 0) (B : List ℕ → Type 0)
+    → whole new ≡ whole old → failures new ≡ failures old → ((text : List ℕ) → whole old ≡ Some text → (value : T) → P value → A text value)
+    → ((text : List ℕ) → whole old ≡ Some text → (f : CheckFault) → Q f → f ≡ Changed → B text)
+    → IfOk r P → IfErr r Q → IfErr r (λ f. f ≢ Device) → ReadsStored whole failures old new r A B
+compared whole failures old new (Ok value) P Q A B keeps same of to p q other =
+    record { says = λ text is. of text is value p; keeps = keeps; counts = same }
+compared whole failures old new (Err Changed) P Q A B keeps same of to p q other =
+    record { says = λ text is. to text is Changed q refl; keeps = keeps; counts = same }
+compared whole failures old new (Err Device) P Q A B keeps same of to p q other = absurd (other refl)
+compared whole failures old new (Err OutOfMemory) P Q A B keeps same of to p q other =
+    record { says = λ text is. tt; keeps = keeps; counts = same }

@@ -59,6 +59,7 @@ pub fn partition_point<P: Placed, S: Sought>(
     ensures claim { pages.new.claim ≡ pages.old.claim }
     ensures keeps { KeepsPages P.whole device.old pages.old pages.new }
     ensures within { IfOk result (λ place. (from ≤ place) × (place ≤ S.count sought.now)) }
+    ensures inside { from ≤ to → IfOk result (λ place. place ≤ to) }
     ensures read { ReadsStored P.whole P.failures device.old device.new result
         (λ text place. (all : List ℕ) (rows : S.Rows) → ArePagesOf pages.old text all → S.stand sought.now rows all
         → IsEdge (S.is_below sought.now rows) from to place)

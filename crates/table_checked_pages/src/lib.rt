@@ -7,11 +7,12 @@
 //! - `claim`: [`Claim`], the place at which bytes are said to be stored;
 //! - `fault`: [`CheckFault`], why bytes cannot be returned;
 //! - `sizes`: the number of bytes that are stored, and of each level;
-//! - `checking`: a number of bytes, compared with their digest;
+//! - `checking`: a number of bytes, compared with their digest; [`read_all`], all bytes of a claim;
 //! - `level`: the known pages of a level;
 //! - `pages`: [`Pages`], stored bytes, and their known pages;
 //! - `opening`: [`Pages::open`], the bytes of a claim; `reading`: [`Pages::read`], some of them;
 //! - `halving`: [`partition_point`], a binary search among rows in pages ([`Sought`]);
+//! - `groups`: [`Groups`], the place of rows of any size in groups; `group_reading`: one of the groups;
 //! - `storing`: [`store`], bytes with their digests; `numbers`: the numbers among stored bytes;
 //! - `laws`: how bytes are stored; the assumption about SHA-256, and when it is not needed.
 #![tactic(auto)]
@@ -19,6 +20,8 @@
 mod checking;
 mod claim;
 mod fault;
+mod group_reading;
+mod groups;
 mod halving;
 pub mod laws;
 mod level;
@@ -29,8 +32,10 @@ mod reading;
 mod sizes;
 mod storing;
 
+pub use checking::read_all;
 pub use claim::Claim;
 pub use fault::CheckFault;
+pub use groups::{GROUP_LEN, GROUP_MOST, GROUP_ROWS, Groups, groups_in};
 pub use halving::{Sought, partition_point};
 pub use numbers::{u32_be_at, u64_be_at};
 pub use pages::Pages;

@@ -1,6 +1,6 @@
 //! Bytes with their digests.
 
-ghost use Rattle.std.specs.Prelude.{◌≡◌, ◌<◌, ◌≤◌, ◌*◌, ◌^◌, ℕ, List, IfOk, length};
+ghost use Rattle.std.specs.Prelude.{◌≡◌, ◌<◌, ◌≤◌, ◌*◌, ◌^◌, ◌++◌, ℕ, List, IfOk, length};
 ghost use Rattle.sha2.specs.Sha256.{sha256};
 ghost use Rattle.table_checked_pages.specs.Pages.{page_digests, page_of, root_of, stored};
 
@@ -35,6 +35,21 @@ fn page_digests(heap: Heap, bytes: &[u8]) -> Result<Vec<u8, Heap>, NoMemory>
         digests.extend_from_slice(&Sha256::digest(page_of(bytes, index)))?;
     }
     Ok(digests)
+}
+
+/// The digests that are stored before bytes, and the root.
+pub(crate) fn digests_over(heap: &Heap, bytes: &[u8]) -> Result<Stored, NoMemory>
+    ensures stored { IfOk result (λ over. over.bytes.items ++ bytes.now ≡ stored bytes.now) }
+    ensures root { IfOk result (λ over. over.root ≡ root_of bytes.now) }
+{
+    if bytes.len() as u64 <= PAGE_LEN {
+        let root = Sha256::digest(bytes);
+        return Ok(Stored {
+            bytes: Vec::new(heap.share()),
+            root,
+        });
+    }
+    store(heap, page_digests(heap.share(), bytes)?)
 }
 
 /// Bytes with their digests, as they are stored.

@@ -1,26 +1,46 @@
 -- What is read of any bytes.
-use Rattle.std.proofs.Common.{◌≡◌, ℕ, ◌+◌, ◌*◌, ◌-◌, ◌<◌, ◌≤◌, List, [], ◌∷◌, ◌++◌, length, take, drop, ap, sym, subst, ◌∙◌}
-use Rattle.std.proofs.Common.{arith, refl, Option, Some, None}
-use Rattle.std.specs.Prelude.{◌≢◌, MatchOption, map}
+use Rattle.std.proofs.Common.{◌≡◌, ℕ, ◌+◌, ◌*◌, ◌<◌, ◌≤◌, List, [], ◌∷◌, ◌++◌, length, take, drop, ap, sym, subst, ◌∙◌}
+use Rattle.std.proofs.Common.{arith, Option, Some}
+use Rattle.std.specs.Prelude.{Err, IfOk, MatchResult, Ok, Result}
 use Rattle.std.specs.Int.{w32, from_be_bytes}
 use Rattle.std.proofs.lemmas.List.{append_assoc, append-nil, map-append}
 use Rattle.dwarf_lines.specs.Paths.{PathRecord}
 use Rattle.dwarf_source_frames.specs.Frames.{FrameRecord}
 use Rattle.table_symbols.specs.Opened.{u64_at}
-use Rattle.table_symbols.proofs.HeadedLemmas.{part_read, u64_read}
+use Rattle.table_checked_pages.specs.Groups.{groups_in}
+use Rattle.table_checked_pages.specs.Reading.{IsRefused, ReadsStored}
+use Rattle.table_checked_pages.specs.declared.fault.CheckFault.{CheckFault}
+use Rattle.table_checked_pages.proofs.PlaceLemmas.{part_read}
+use Rattle.table_symbols.proofs.HeadedLemmas.{u64_read}
 use Rattle.table_source_frames.specs.FrameViews.{owned_frame_view, owned_frames}
-use Rattle.table_source_frames.specs.Inner.{HasTextsOf, IsFileIn, IsFrameIn, IsLocationIn, IsTextIn}
-use Rattle.table_source_frames.specs.OfBytes.{AreStoredFrames, EndWithTable, HasCounts, IsMaybeStoredPath}
-use Rattle.table_source_frames.specs.OfBytes.{IsNoTableIn, IsTableIn}
-use Rattle.table_source_frames.specs.OfBytes.{IsMaybeStoredText, IsStoredFrame, IsStoredPath, IsStoredText, caller_of}
-use Rattle.table_source_frames.specs.OfBytes.{file_at, location_at, text_at, texts_at, u32_at}
+use Rattle.table_source_frames.specs.Inner.{HasTextsOf, IsFileIn, IsFrameIn, IsPositionIn, IsScopeIn, IsTextIn}
+use Rattle.table_source_frames.specs.OfBytes.{AreFramesOfStep, AreStoredFrames, EndWithTable}
+use Rattle.table_source_frames.specs.OfBytes.{IsMaybeStoredPath}
+use Rattle.table_source_frames.specs.OfBytes.{IsMaybeStoredText, IsNoTableIn, IsStoredFrame, IsStoredPath, IsStoredText}
+use Rattle.table_source_frames.specs.OfBytes.{IsTableIn, IsText, caller_of, column_of, line_of, text_at}
+use Rattle.table_source_frames.specs.OfBytes.{texts_at, u32_at}
 use Rattle.table_source_frames.specs.declared.frame.OwnedFrame.{OwnedFrame}
 use Rattle.table_source_frames.specs.declared.opening.Head.{Head}
 use Rattle.table_source_frames.specs.declared.row.File.{File}
-use Rattle.table_source_frames.specs.declared.row.Location.{Location}
+use Rattle.table_source_frames.specs.declared.row.Position.{Position}
+use Rattle.table_source_frames.specs.declared.row.Scope.{Scope}
 use Rattle.table_source_frames.specs.declared.row.Text.{Text}
 use Rattle.table_source_frames.specs.declared.table.LineTable.{LineTable}
 use Rattle.table_source_frames.proofs.OpeningLemmas.{HasHead, IsHead}
+
+ok_as : {T : Type 0} (r : Result T CheckFault) (A : List ℕ → T → Type 0) (B Known : List ℕ → Type 0) (P : T → Type 0)
+    → ((value : T) → ((text : List ℕ) → Known text → A text value) → P value)
+    → ((text : List ℕ) → Known text → MatchResult r (A text) (IsRefused (B text))) → IfOk r P
+ok_as (Ok value) A B Known P to says = to value says
+ok_as (Err f) A B Known P to says = tt
+
+-- the result of a call that read is true of each text that the device may be known to have
+pub of_ok : {D T : Type 0} {whole : D → Option (List ℕ)} {failures : D → ℕ} {old new : D} {r : Result T CheckFault}
+    {A : List ℕ → T → Type 0} {B : List ℕ → Type 0} (P : T → Type 0)
+    → ((value : T) → ((text : List ℕ) → whole old ≡ Some text → A text value) → P value)
+    → ReadsStored whole failures old new r A B → IfOk r P
+of_ok {whole = whole} {old = old} {r = r} {A = A} {B = B} P to h =
+    ok_as r A B (λ text. whole old ≡ Some text) P to h.says
 
 -- a number that was read stands at its offset
 u32_read : (at n offset place : ℕ) (all bytes : List ℕ) → at + 4 ≤ n → offset + at ≡ place
@@ -28,13 +48,13 @@ u32_read : (at n offset place : ℕ) (all bytes : List ℕ) → at + 4 ≤ n →
 u32_read at n offset place all bytes within is came =
     ap (from_be_bytes w32) (part_read at 4 n offset all bytes within came) ∙ ap (u32_at all) is
 
-pub location_in : (table : LineTable) (all bytes : List ℕ) (number index n offset : ℕ) (row : Location)
-    → index + 1 ≡ number → index < table.locations → n ≡ 20
-    → offset ≡ table.offset + 56 + 8 * table.runs + 8 * table.steps + 20 * index → bytes ≡ take n (drop offset all)
+pub scope_in : (table : LineTable) (all bytes : List ℕ) (number index n offset : ℕ) (row : Scope)
+    → index + 1 ≡ number → index < table.scopes → n ≡ 20
+    → offset ≡ table.offset + 56 + 16 * groups_in table.steps + table.step_bytes + 20 * index → bytes ≡ take n (drop offset all)
     → row.name ≡ from_be_bytes w32 (take 4 (drop 0 bytes)) → row.file ≡ from_be_bytes w32 (take 4 (drop 4 bytes))
-    → row.line ≡ from_be_bytes w32 (take 4 (drop 8 bytes)) → row.column ≡ from_be_bytes w32 (take 4 (drop 12 bytes))
-    → row.caller ≡ from_be_bytes w32 (take 4 (drop 16 bytes)) → IsLocationIn table all number row
-location_in table all bytes number index n offset row next within long at came name file line column caller = record {
+    → row.caller.line ≡ from_be_bytes w32 (take 4 (drop 8 bytes)) → row.caller.column ≡ from_be_bytes w32 (take 4 (drop 12 bytes))
+    → row.caller.scope ≡ from_be_bytes w32 (take 4 (drop 16 bytes)) → IsScopeIn table all number row
+scope_in table all bytes number index n offset row next within long at came name file line column caller = record {
   some = omega (arith, next);
   counted = omega (arith, next, within);
   name = name ∙ u32_read 0 n offset _ all bytes (omega (arith, long)) (omega (arith, at, next)) came;
@@ -46,7 +66,7 @@ location_in table all bytes number index n offset row next within long at came n
 
 pub file_in : (table : LineTable) (all bytes : List ℕ) (number index n offset : ℕ) (row : File) → index + 1 ≡ number
     → index < table.files → n ≡ 12
-    → offset ≡ table.offset + 56 + 8 * table.runs + 8 * table.steps + 20 * table.locations + 12 * index
+    → offset ≡ table.offset + 56 + 16 * groups_in table.steps + table.step_bytes + 20 * table.scopes + 12 * index
     → bytes ≡ take n (drop offset all) → row.base ≡ from_be_bytes w32 (take 4 (drop 0 bytes))
     → row.directory ≡ from_be_bytes w32 (take 4 (drop 4 bytes)) → row.name ≡ from_be_bytes w32 (take 4 (drop 8 bytes))
     → IsFileIn table all number row
@@ -59,7 +79,7 @@ file_in table all bytes number index n offset row next within long at came base 
 }
 
 pub text_in : (table : LineTable) (all bytes : List ℕ) (index n offset : ℕ) (row : Text) → n ≡ 8
-    → offset ≡ table.offset + 56 + 8 * table.runs + 8 * table.steps + 20 * table.locations + 12 * table.files + 8 * index
+    → offset ≡ table.offset + 56 + 16 * groups_in table.steps + table.step_bytes + 20 * table.scopes + 12 * table.files + 8 * index
     → bytes ≡ take n (drop offset all) → row.place ≡ from_be_bytes w32 (take 4 (drop 0 bytes))
     → row.length ≡ from_be_bytes w32 (take 4 (drop 4 bytes)) → IsTextIn table all (index + 1) row
 text_in table all bytes index n offset row long at came place len = record {
@@ -94,54 +114,72 @@ pub stored_path : (table : LineTable) (all : List ℕ) (number : ℕ) (row : Fil
 stored_path table all number row path is has = record {
   some = is.some;
   counted = is.counted;
-  base = subst (λ k. IsStoredText table all k path.base) is.base has.base;
-  directory = subst (λ k. IsStoredText table all k path.directory) is.directory has.directory;
-  name = subst (λ k. IsStoredText table all k path.name) is.name has.name;
+  base = subst (λ k. IsText table all k path.base) is.base has.base;
+  directory = subst (λ k. IsText table all k path.directory) is.directory has.directory;
+  name = subst (λ k. IsText table all k path.name) is.name has.name;
 }
 
-pub stored_frame : (table : LineTable) (all : List ℕ) (number : ℕ) (row : Location) (frame : FrameRecord)
-    → IsLocationIn table all number row → IsFrameIn table all row frame → IsStoredFrame table all number frame
-stored_frame table all number row frame is has = record {
+pub stored_frame : (table : LineTable) (all : List ℕ) (number line column : ℕ) (row : Scope) (frame : FrameRecord)
+    → IsScopeIn table all number row → IsFrameIn table all row line column frame → IsStoredFrame table all number line column frame
+stored_frame table all number line column row frame is has = record {
   some = is.some;
   counted = is.counted;
   name = subst (λ k. IsMaybeStoredText table all k frame.name) is.name has.name;
   path = subst (λ k. IsMaybeStoredPath table all k frame.path) is.file has.path;
-  line = has.line ∙ is.line;
-  column = has.column ∙ is.column;
+  line = has.line;
+  column = has.column;
 }
 
--- the frames so far, and those from the location of this row on
-pub frame_before : (table : LineTable) (all : List ℕ) (items more : List OwnedFrame) (location number : ℕ)
-    (row : Location) (frame : OwnedFrame) (rest : List FrameRecord)
-    → ((rest : List FrameRecord) → AreStoredFrames table all number rest → AreStoredFrames table all location (owned_frames items ++ rest))
-    → IsLocationIn table all number row → row.caller < number → IsFrameIn table all row (owned_frame_view frame)
-    → more ≡ items ++ frame ∷ [] → AreStoredFrames table all row.caller rest
-    → AreStoredFrames table all location (owned_frames more ++ rest)
-frame_before table all items more location number row frame rest before is lower has pushed after =
-    let caller : row.caller ≡ caller_of table all number = is.caller in
-    let here : AreStoredFrames table all number (owned_frame_view frame ∷ rest) = (
-      stored_frame table all number row (owned_frame_view frame) is has,
-      subst (λ k. k < number) caller lower,
-      subst (λ k. AreStoredFrames table all k rest) caller after,
+-- the frames from a position on, if they are those of a scope with this line and column
+abbrev pub AreFrom : LineTable → List ℕ → Position → List FrameRecord → Type 0
+AreFrom table all position frames = AreStoredFrames table all position.scope position.line position.column frames
+
+-- the frames so far, and those from the position of this row's caller on
+pub frame_before : (table : LineTable) (all : List ℕ) (items more : List OwnedFrame) (from position : Position)
+    (row : Scope) (frame : OwnedFrame) (rest : List FrameRecord)
+    → ((rest : List FrameRecord) → AreFrom table all position rest → AreFrom table all from (owned_frames items ++ rest))
+    → IsScopeIn table all position.scope row → row.caller.scope < position.scope
+    → IsFrameIn table all row position.line position.column (owned_frame_view frame)
+    → more ≡ items ++ frame ∷ [] → AreFrom table all row.caller rest
+    → AreFrom table all from (owned_frames more ++ rest)
+frame_before table all items more from position row frame rest before is lower has pushed after =
+    let caller : row.caller.scope ≡ caller_of table all position.scope = is.caller in
+    let here : AreFrom table all position (owned_frame_view frame ∷ rest) = (
+      stored_frame table all position.scope position.line position.column row (owned_frame_view frame) is has,
+      subst (λ k. k < position.scope) caller lower,
+      subst (λ k. AreStoredFrames table all k (line_of table all position.scope) (column_of table all position.scope) rest) caller
+          (subst (λ k. AreStoredFrames table all row.caller.scope k (column_of table all position.scope) rest) is.line
+          (subst (λ k. AreStoredFrames table all row.caller.scope row.caller.line k rest) is.column after)),
     ) in
     let joined : owned_frames items ++ (owned_frame_view frame ∷ rest) ≡ owned_frames more ++ rest =
     sym (ap (λ xs. owned_frames xs ++ rest) pushed
     ∙ ap (λ xs. xs ++ rest) (map-append owned_frame_view items (frame ∷ []))
     ∙ append_assoc (owned_frames items) (owned_frame_view frame ∷ []) rest) in
-    subst (AreStoredFrames table all location) joined (before (owned_frame_view frame ∷ rest) here)
+    subst (AreFrom table all from) joined (before (owned_frame_view frame ∷ rest) here)
 
 -- none are left from 0 on
-pub frames_end : (table : LineTable) (all : List ℕ) (items : List OwnedFrame) (location number : ℕ) → number ≡ 0
-    → ((rest : List FrameRecord) → AreStoredFrames table all number rest → AreStoredFrames table all location (owned_frames items ++ rest))
-    → AreStoredFrames table all location (owned_frames items)
-frames_end table all items location number none before =
-    subst (AreStoredFrames table all location) (append-nil (owned_frames items)) (before [] none)
+pub frames_end : (table : LineTable) (all : List ℕ) (items : List OwnedFrame) (from position : Position) → position.scope ≡ 0
+    → ((rest : List FrameRecord) → AreFrom table all position rest → AreFrom table all from (owned_frames items ++ rest))
+    → AreFrom table all from (owned_frames items)
+frames_end table all items from position none before =
+    subst (AreFrom table all from) (append-nil (owned_frames items)) (before [] none)
+
+-- the frames of a position that is that of a step
+pub frames_of_step : (table : LineTable) (all : List ℕ) (position : Position) (frames : List FrameRecord)
+    → IsPositionIn table all position → AreFrom table all position frames → AreFramesOfStep table all frames
+frames_of_step table all position frames is are = (
+  is.0,
+  is.1,
+  subst (λ k. AreStoredFrames table all k is.0.line is.0.column frames) is.2.scope
+      (subst (λ k. AreStoredFrames table all position.scope k is.0.column frames) is.2.line
+      (subst (λ k. AreStoredFrames table all position.scope position.line k frames) is.2.column are)),
+)
 
 -- ---- the head
 
 ends_with : (all bytes : List ℕ) (n offset size : ℕ) (head : Head) → n ≡ 56 → offset + 56 ≤ size
     → bytes ≡ take n (drop offset all) → IsHead head bytes → length all ≡ size
-    → offset + 56 + 8 * head.runs + 8 * head.steps + 20 * head.locations + 12 * head.files + 8 * head.texts + head.bytes ≡ size
+    → offset + 56 + 16 * groups_in head.steps + head.step_bytes + 20 * head.scopes + 12 * head.files + 8 * head.texts + head.bytes ≡ size
     → EndWithTable all offset
 ends_with all bytes n offset size head long within came is sized adds = record {
   has_head = omega (arith, within, sized);
@@ -149,9 +187,9 @@ ends_with all bytes n offset size head long within came is sized adds = record {
     arith,
     sized,
     adds,
-    is.runs ∙ u64_read 8 n offset all bytes (omega (arith, long)) came,
-    is.steps ∙ u64_read 16 n offset all bytes (omega (arith, long)) came,
-    is.locations ∙ u64_read 24 n offset all bytes (omega (arith, long)) came,
+    ap groups_in (is.steps ∙ u64_read 8 n offset all bytes (omega (arith, long)) came),
+    is.step_bytes ∙ u64_read 16 n offset all bytes (omega (arith, long)) came,
+    is.scopes ∙ u64_read 24 n offset all bytes (omega (arith, long)) came,
     is.files ∙ u64_read 32 n offset all bytes (omega (arith, long)) came,
     is.texts ∙ u64_read 40 n offset all bytes (omega (arith, long)) came,
     is.bytes_of ∙ u64_read 48 n offset all bytes (omega (arith, long)) came,
@@ -171,18 +209,19 @@ found_no all bytes n offset size head long within came is sized none = record {
   none = sym (first_in all bytes n offset head long came is) ∙ none;
 }
 
-pub found_in : (all bytes : List ℕ) (n offset size : ℕ) (head : Head) (table : LineTable) → n ≡ 56
+pub found_in : (all bytes : List ℕ) (n strings offset size : ℕ) (head : Head) (table : LineTable) → n ≡ 56
     → offset + 56 ≤ size → bytes ≡ take n (drop offset all) → IsHead head bytes → length all ≡ size
-    → offset + 56 + 8 * head.runs + 8 * head.steps + 20 * head.locations + 12 * head.files + 8 * head.texts + head.bytes ≡ size
-    → (head.lines ≡ 0 → ⊥) → HasHead table offset head → IsTableIn all offset table
-found_in all bytes n offset size head table long within came is sized adds some has = record {
+    → offset + 56 + 16 * groups_in head.steps + head.step_bytes + 20 * head.scopes + 12 * head.files + 8 * head.texts + head.bytes ≡ size
+    → (head.lines ≡ 0 → ⊥) → HasHead table strings offset head → IsTableIn all strings offset table
+found_in all bytes n strings offset size head table long within came is sized adds some has = record {
   ends = ends_with all bytes n offset size head long within came is sized adds;
   some = λ none. some (first_in all bytes n offset head long came is ∙ none);
+  strings_is = has.strings_is;
   offset_is = has.offset_is;
   counts = record {
-    runs = has.runs ∙ is.runs ∙ moved 8 (omega arith);
-    steps = has.steps ∙ is.steps ∙ moved 16 (omega arith);
-    locations = has.locations ∙ is.locations ∙ moved 24 (omega arith);
+    steps = has.steps ∙ is.steps ∙ moved 8 (omega arith);
+    step_bytes = has.step_bytes ∙ is.step_bytes ∙ moved 16 (omega arith);
+    scopes = has.scopes ∙ is.scopes ∙ moved 24 (omega arith);
     files = has.files ∙ is.files ∙ moved 32 (omega arith);
     texts = has.texts ∙ is.texts ∙ moved 40 (omega arith);
     bytes = has.bytes ∙ is.bytes_of ∙ moved 48 (omega arith);

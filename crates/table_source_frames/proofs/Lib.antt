@@ -1,8 +1,9 @@
 pub mod StepLemmas
-pub mod RunLemmas
 pub mod NumberingLemmas
 pub mod SameLemmas
-pub mod ChainLemmas
+pub mod ScopeLemmas
+pub mod TextLemmas
+pub mod StepGroupLemmas
 pub mod TablePartLemmas
 pub mod OpenedLemmas
 pub mod OpeningLemmas

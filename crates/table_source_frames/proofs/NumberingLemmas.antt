@@ -1,7 +1,7 @@
 -- Numbers of things, in the order in which they first come.
 use Rattle.std.proofs.Common.{◌≡◌, ℕ, zero, suc, ◌+◌, ◌-◌, ◌<◌, ◌≤◌, Bool, true, false, List, [], ◌∷◌, ◌++◌, length}
 use Rattle.std.proofs.Common.{refl, sym, ap, ◌∙◌, subst, inl, inr, arith, Option, Some, None, ◌⊎◌, slice_get}
-use Rattle.std.specs.Prelude.{filter_map, flat_map, unwrap_or}
+use Rattle.std.specs.Prelude.{filter_map, flat_map, map, unwrap_or}
 use Rattle.std.specs.List.{cons_option, list_any, position_from}
 use Rattle.std.proofs.lemmas.Bool.{cases_Bool, cond-true, cond-false, or_cases, or_parts, false≢true}
 use Rattle.std.proofs.lemmas.Option.{none-some, same_Some, slice_get_within}
@@ -61,6 +61,14 @@ has_filter_map {B = B} f (z ∷ xs) (suc k) x y is e = later (f z) (has_filter_m
     later : (o : Option B) → Has (filter_map f xs) y → Has (cons_option o (filter_map f xs)) y
     later None h = h
     later (Some w) h = has_rest w (filter_map f xs) y h
+
+pub has_map : {A B : Type 0} (f : A → B) (xs : List A) (x : A) → Has xs x → Has (map f xs) (f x)
+has_map {A = A} f xs x h = at_place xs h.0 h.1
+  where
+    at_place : (xs : List A) (k : ℕ) → slice_get xs k ≡ Some x → Has (map f xs) (f x)
+    at_place [] k e = absurd (none-some x e)
+    at_place (y ∷ xs) zero e = (0, ap (λ z. Some (f z)) (same_Some y x e))
+    at_place (y ∷ xs) (suc k) e = has_rest (f y) (map f xs) (f x) (at_place xs k e)
 
 pub has_flat_map : {A B : Type 0} (f : A → List B) (xs : List A) (k : ℕ) (x : A) (y : B) → slice_get xs k ≡ Some x → Has (f x) y → Has (flat_map f xs) y
 has_flat_map f [] k x y is h = absurd (none-some x is)

@@ -6,6 +6,7 @@ use Rattle.std.proofs.lemmas.Bool.{and_parts, and_from, eqb-true, eq-eqb, false�
 use Rattle.std.proofs.lemmas.Option.{none-some, same_Some}
 use Rattle.dwarf_lines.specs.Paths.{PathRecord}
 use Rattle.dwarf_source_frames.specs.Frames.{FrameRecord}
+use Rattle.table_source_frames.specs.LineText.{same_place}
 use Rattle.table_source_frames.specs.Numbering.{same_text, same_path, same_frame, same_chain}
 use Rattle.table_source_frames.proofs.NumberingLemmas.{IsExact}
 
@@ -17,6 +18,9 @@ maybe_decides same decides None None = (λ e. refl, λ e. refl)
 maybe_decides same decides None (Some y) = (λ e. absurd (false≢true e), λ e. absurd (none-some y e))
 maybe_decides same decides (Some x) None = (λ e. absurd (false≢true e), λ e. absurd (none-some x (sym e)))
 maybe_decides same decides (Some x) (Some y) = (λ e. ap Some ((decides x y).0 e), λ e. (decides x y).1 (same_Some x y e))
+
+pub place_decides : IsExact same_place
+place_decides x y = maybe_decides same_text text_decides x y
 
 pub path_decides : IsExact same_path
 unfolding same_path

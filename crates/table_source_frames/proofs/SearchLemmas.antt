@@ -1,219 +1,371 @@
--- The halvings over the runs and steps of a table.
-use Rattle.std.proofs.Common.{◌≡◌, ℕ, ◌+◌, ◌-◌, ◌<◌, ◌≤◌, List, [], ◌∷◌, ◌++◌, length, get_or, refl, sym, ap, ◌∙◌}
-use Rattle.std.proofs.Common.{subst, inl, inr, nat_lt, nat_le, arith, length-append, Option, Some, None}
-use Rattle.std.specs.Prelude.{Decides}
+-- The step of an address: the group of its number, and the step in it.
+use Rattle.std.proofs.Common.{◌≡◌, ℕ, zero, suc, ◌+◌, ◌-◌, ◌*◌, ◌<◌, ◌≤◌, ◌^◌, ◌⊎◌, List, [], ◌∷◌, ◌++◌, length, take, drop, get_or, refl, sym, ap, ◌∙◌}
+use Rattle.std.proofs.Common.{subst, inl, inr, arith, length-append, Some, None}
+use Rattle.std.specs.Prelude.{All, map}
+use Rattle.std.specs.List.{range_with_len}
 use Rattle.std.proofs.lemmas.Bool.{cases_lt}
-use Rattle.std.proofs.lemmas.Bool.Decides.{nat_tests}
-use Rattle.std.proofs.lemmas.List.{append-nil, append_assoc, map-append}
+use Rattle.std.proofs.lemmas.List.{append-nil, append_assoc, get_or-drop, get_or-map, get_or-take, length-drop, length-take, map-append}
+use Rattle.std.proofs.lemmas.List.Elements.{All-drop, All-take}
+use Rattle.std.proofs.lemmas.List.FromFn.{get_or-range_with_len, length-range_with_len}
+use Rattle.std.proofs.lemmas.Option.{none-some, same_Some, slice_get-get_or}
 use Rattle.std.proofs.Math.ListN.{length-map}
-use Rattle.table_checked_pages.specs.Halving.{IsEdge}
-use Rattle.table_checked_pages.specs.Views.{ArePagesOf}
+use Rattle.table_checked_pages.specs.Groups.{AreGroups, AreGroupsIn, GroupRecord, IsBytesOf, group_at, groups_in}
+use Rattle.table_checked_pages.specs.Groups.{groups_of, keys_of, stored_group}
 use Rattle.table_checked_pages.specs.declared.pages.Pages.{Pages}
+use Rattle.dwarf_encoding.specs.Leb128.{signed_leb128_bytes}
 use Rattle.dwarf_source_frames.specs.Frames.{FrameRecord}
 use Rattle.table_source_frames.specs.FrameViews.{owned_frame_view, owned_frames}
-use Rattle.table_source_frames.specs.Inner.{AreBelow, IsChainNumber, IsMaybeChain, IsRunRow, IsStepRow, run_halves, step_halves}
-use Rattle.table_source_frames.specs.LineText.{LineParts, parts_of}
-use Rattle.table_source_frames.specs.Opened.{IsOpened, IsTextOf}
-use Rattle.table_source_frames.specs.Runs.{lower_half, runs_of, upper_half}
-use Rattle.table_source_frames.specs.Steps.{AreAscending, IsStepFor, StepRecord, frames_at, starts_of}
+use Rattle.table_source_frames.specs.Inner.{AreNoSteps, FitsPosition, IsLastStep, IsMaybeScope, IsPosition}
+use Rattle.table_source_frames.specs.Inner.{HasPosition, IsPositionOf, IsScopeNumber, group_bytes_of}
+use Rattle.table_source_frames.specs.LineText.{LineParts, numbers_of, parts_of, scope_number}
+use Rattle.table_source_frames.specs.LineText.{scope_of}
+use Rattle.table_source_frames.specs.Numbering.{same_chain}
+use Rattle.table_source_frames.specs.OfBytes.{IsStoredStep, groups_place}
+use Rattle.table_source_frames.specs.Opened.{HaveWidths, IsOpened}
+use Rattle.table_source_frames.specs.StepGroups.{StepNumbers, difference_bytes, first_start, no_numbers}
+use Rattle.table_source_frames.specs.StepGroups.{step_bytes, step_group, steps_bytes, steps_on}
+use Rattle.table_source_frames.specs.Steps.{AreAscending, IsLastNotAbove, IsStepFor, StepRecord, frames_at, starts_of}
 use Rattle.table_source_frames.specs.declared.frame.OwnedFrame.{OwnedFrame}
-use Rattle.table_source_frames.specs.declared.row.Run.{Run}
-use Rattle.table_source_frames.specs.declared.row.Step.{Step}
+use Rattle.table_source_frames.specs.declared.row.Position.{Position}
 use Rattle.table_source_frames.specs.declared.table.LineTable.{LineTable}
-use Rattle.table_source_frames.proofs.RunLemmas.{below_by_lower, below_by_upper, half_at, no_run, upper_at, within_by_lower}
+use Rattle.table_source_frames.proofs.NumberingLemmas.{number_within}
+use Rattle.table_source_frames.proofs.OpenedLemmas.{groups_at, maybe_scope}
+use Rattle.table_source_frames.proofs.SameLemmas.{chain_decides}
+use Rattle.table_source_frames.proofs.ScopeLemmas.{step_fits, step_has}
+use Rattle.table_source_frames.proofs.StepGroupLemmas.{FitsStep, IsReadBack, end_back, last_at, last_none, last_of, next_read, not_ended, read_within}
 use Rattle.table_source_frames.proofs.StepLemmas.{frames_there, no_step, start_at, starts_long}
+use Rattle.table_source_frames.proofs.TablePartLemmas.{groups_in_parts, length-groups}
 
--- so many of some numbers are below a limit
-abbrev pub AreBelowTo : List ℕ → ℕ → ℕ → Type 0
-AreBelowTo all limit low = (j : ℕ) → j < low → get_or all j 0 < limit
-
--- from an index on none is
-abbrev pub AreOthersFrom : List ℕ → ℕ → ℕ → Type 0
-AreOthersFrom all limit high = (j : ℕ) → high ≤ j → j < length all → limit ≤ get_or all j 0
-
-pub below_to : (all : List ℕ) (limit middle : ℕ) → AreAscending all → middle < length all → get_or all middle 0 < limit → AreBelowTo all limit (middle + 1)
-below_to all limit middle rising within below j l = elim (cases_lt j middle) [
-  | inl less ↦ omega (arith, below, rising j middle less within)
+-- numbers that ascend do not fall
+not_less : (xs : List ℕ) → AreAscending xs → (i j : ℕ) → i ≤ j → j < length xs → get_or xs i 0 ≤ get_or xs j 0
+not_less xs rising i j le l = elim (cases_lt i j) [
+  | inl less ↦ omega (arith, rising i j less l)
   | inr more ↦
-      let same : middle ≡ j = omega (arith, l, more) in
-      subst (λ n. get_or all n 0 < limit) same below
+      let same : i ≡ j = omega (arith, le, more) in
+      omega (arith, ap (λ k. get_or xs k 0) same)
 ]
 
-pub others_from : (all : List ℕ) (limit middle : ℕ) → AreAscending all → (get_or all middle 0 < limit → ⊥) → AreOthersFrom all limit middle
-others_from all limit middle rising other j low l = elim (cases_lt middle j) [
-  | inl less ↦ omega (arith, other, rising middle j less l)
-  | inr more ↦
-      let same : middle ≡ j = omega (arith, low, more) in
-      let here : limit ≤ get_or all middle 0 = omega (arith, other) in
-      subst (λ n. limit ≤ get_or all n 0) same here
-]
+-- ---- rows of groups
 
--- the places of numbers that ascend, from one before which all are below to one from which on none is: where those that
--- are below end
-pub below_edge : (all : List ℕ) (limit from to place : ℕ) → AreAscending all → to ≤ length all → from ≤ to
-    → AreBelowTo all limit from → AreOthersFrom all limit to
-    → IsEdge (λ i. get_or all i 0 < limit) from to place → AreBelow all limit place
-below_edge all limit from to place rising within in_order below others edge = record {
-  within = omega (arith, edge.most in_order, within);
-  below = elim (cases_lt from place) [
-    | inl more ↦
-        let last : place - 1 + 1 ≡ place = omega (arith, more) in
-        let there : place - 1 < length all = omega (arith, more, edge.most in_order, within) in
-        subst (AreBelowTo all limit) last (below_to all limit (place - 1) rising there (edge.before more))
-    | inr none ↦ λ j l. below j (omega (arith, l, none))
-  ];
-  others = elim (cases_lt place to) [
-    | inl more ↦ others_from all limit place rising (edge.at more)
-    | inr none ↦ λ j l m. others j (omega (arith, l, none)) m
-  ];
-}
-
--- a number that is another one decides what that does
-pub less_decides : (value limit n : ℕ) → n ≡ value → Decides (nat_lt n limit) (value < limit)
-less_decides value limit n same = (
-  λ t.
-      let less : n < limit = grind (arith, nat_tests, t) in
-      omega (arith, less, same),
-  λ l.
-      let less : n < limit = omega (arith, l, same) in
-      grind (arith, nat_tests),
-)
-
-pub up_to_decides : (value limit n m : ℕ) → n ≡ value → m ≡ limit → Decides (nat_le n m) (value ≤ limit)
-up_to_decides value limit n m same also = (
-  λ t.
-      let within : n ≤ m = grind (arith, nat_tests, t) in
-      omega (arith, within, same, also),
-  λ l.
-      let within : n ≤ m = omega (arith, l, same, also) in
-      grind (arith, nat_tests),
-)
-
--- the table that a search is among is opened
-pub opened_of : (table : LineTable) (pages : Pages) (text all : List ℕ) (steps : List StepRecord)
-    → ArePagesOf pages text all → IsTextOf table all steps → IsOpened table pages text all steps
-opened_of table pages text all steps pages_of is = record { are_pages = pages_of; stands = is.stands; widths = is.widths; head = is.head }
-
-pub text_of : (table : LineTable) (pages : Pages) (text all : List ℕ) (steps : List StepRecord) → IsOpened table pages text all steps → IsTextOf table all steps
-text_of table pages text all steps opened = record { stands = opened.stands; widths = opened.widths; head = opened.head }
-
--- ---- runs
-
--- the upper half of the run of an index, by its row
-pub upper_of_row : (steps : List StepRecord) (index : ℕ) (row : Run) → IsRunRow steps index row
-    → index < length (runs_of steps) → row.upper ≡ get_or (run_halves steps) index 0
-upper_of_row steps index row is within = is.upper no_run ∙ sym (upper_at steps index within)
-
--- ---- the steps of the upper half of an address
-
--- in these bounds are the steps whose starts have the upper half of an address
-pub record AreBounds (steps : List StepRecord) (address low high : ℕ) : Type 0 where
-  pub lower : AreBelow (step_halves steps) (upper_half address) low
-  pub higher : AreBelow (step_halves steps) (upper_half address + 1) high
-
-pub bounds_are : (steps : List StepRecord) (address upper low high : ℕ) → upper ≡ upper_half address
-    → AreBelow (step_halves steps) upper low → AreBelow (step_halves steps) (upper + 1) high
-    → AreBounds steps address low high
-bounds_are steps address upper low high is lower higher =
-    record {
-      lower = subst (λ n. AreBelow (step_halves steps) n low) is lower;
-      higher =
-          subst (λ n. AreBelow (step_halves steps) (n + 1) high) is higher;
-    }
-
-module _ (steps : List StepRecord) (address first end : ℕ) (bounds : AreBounds steps address first end) where
-  half : (j : ℕ) → j < length (starts_of steps) → get_or (step_halves steps) j 0 ≡ upper_half (get_or (starts_of steps) j 0)
-  half j l = half_at steps j (omega (arith, l, starts_long steps))
-
-  long : length (step_halves steps) ≡ length (starts_of steps)
-  long = length-map (starts_of steps) upper_half
-
-  pub bounds_rise : first ≤ end
-  bounds_rise = elim (cases_lt end first) [
-    | inl less ↦
-        let low = bounds.lower.below end less in
-        let high = bounds.higher.others end (omega arith) (omega (arith, less, bounds.lower.within)) in
-        absurd (omega (arith, low, high))
-    | inr more ↦ omega (arith, more)
-  ]
-
-  pub bounds_within : end ≤ length (starts_of steps)
-  bounds_within = omega (arith, bounds.higher.within, long)
-
-  pub bounds_below : AreBelowTo (starts_of steps) (address + 1) first
-  bounds_below j l =
-      let there : j < length (starts_of steps) = omega (arith, l, bounds.lower.within, long) in
-      omega (arith, below_by_upper (get_or (starts_of steps) j 0) address (omega (arith, bounds.lower.below j l, half j there)))
-
-  pub bounds_others : AreOthersFrom (starts_of steps) (address + 1) end
-  bounds_others j low l =
-      omega (arith, below_by_upper address (get_or (starts_of steps) j 0) (omega (arith, bounds.higher.others j low (omega (arith, l, long)), half j l)))
-
-  -- a step in the bounds has the upper half
-  same_half : (j : ℕ) → first ≤ j → j < end → upper_half (get_or (starts_of steps) j 0) ≡ upper_half address
-  same_half j from to =
-      let there : j < length (starts_of steps) = omega (arith, to, bounds_within) in
-      omega (arith, half j there, bounds.lower.others j from (omega (arith, there, long)), bounds.higher.below j to)
-
-  -- in the bounds the lower halves decide
-  pub lower_below : (place : ℕ) → first ≤ place → place < end
-      → lower_half (get_or (starts_of steps) place 0) ≤ lower_half address
-      → get_or (starts_of steps) place 0 < address + 1
-  lower_below place from to not_above = omega (arith, within_by_lower (get_or (starts_of steps) place 0) address (same_half place from to) not_above)
-
-  pub below_lower : (place : ℕ) → first ≤ place → place < end → get_or (starts_of steps) place 0 < address + 1
-      → lower_half (get_or (starts_of steps) place 0) ≤ lower_half address
-  below_lower place from to less = elim (cases_lt (lower_half address) (lower_half (get_or (starts_of steps) place 0))) [
-    | inl above ↦ omega (arith, less, below_by_lower address (get_or (starts_of steps) place 0) (sym (same_half place from to)) above)
-    | inr not_above ↦ not_above
-  ]
-
-  -- where the lower halves in the bounds end to be below
-  pub bounds_edge : (place : ℕ) → IsEdge (λ i. lower_half (get_or (starts_of steps) i 0) ≤ lower_half address) first end
-      place → IsEdge (λ i. get_or (starts_of steps) i 0 < address + 1) first end place
-  bounds_edge place edge = record {
-    least = edge.least;
-    most = edge.most;
-    before = λ more. lower_below (place - 1) (omega (arith, more)) (omega (arith, more, edge.most bounds_rise)) (edge.before more);
-    at = λ more less. edge.at more (below_lower place edge.least more less);
-  }
-
--- the lower half of the step of a place, by its row
-pub lower_of_row : (steps : List StepRecord) (place : ℕ) (row : Step) → IsStepRow steps place row → place < length steps
-    → row.lower ≡ lower_half (get_or (starts_of steps) place 0)
-lower_of_row steps place row is within = is.lower no_step ∙ sym (ap lower_half (start_at steps place no_step 0 within))
-
--- ---- the step of an address
-
-pub no_step_for : (steps : List StepRecord) (address count : ℕ) → count ≡ 0 → AreBelow (starts_of steps) (address + 1) count
-    → (found : Option ℕ) × IsStepFor (starts_of steps) address found × IsMaybeChain (parts_of steps) 0 (frames_at steps found)
-no_step_for steps address count none are = (None, λ j l. omega (arith, are.others j (omega (arith, none)) l), refl)
-
-pub last_step_for : (steps : List StepRecord) (address count index : ℕ) (row : Step) → index + 1 ≡ count
-    → AreBelow (starts_of steps) (address + 1) count → IsStepRow steps index row
-    → (found : Option ℕ) × IsStepFor (starts_of steps) address found × IsMaybeChain (parts_of steps) row.location (frames_at steps found)
-last_step_for steps address count index row next are is =
-    let within : index < length steps = omega (arith, are.within, next, starts_long steps) in (
-      Some index,
-      record {
-        stands = omega (arith, within, starts_long steps);
-        not_above = omega (arith, are.below index (omega (arith, next)));
-        others = λ j l m. omega (arith, are.others j (omega (arith, l, next)) m);
-      },
-      subst (IsMaybeChain (parts_of steps) row.location) (sym (frames_there steps index no_step within)) (is.location no_step),
+-- a group is full, or has the rest
+group_size : {A : Type 0} (xs : List A) (i : ℕ) → 128 * i ≤ length xs
+    → (length (group_at xs i) ≤ 128) × (128 * i + length (group_at xs i) ≤ length xs)
+    × ((length (group_at xs i) ≡ 128) ⊎ (128 * i + length (group_at xs i) ≡ length xs))
+group_size xs i within =
+    let long = length-take 128 (drop (128 * i) xs) in
+    let rest = length-drop (128 * i) xs in (
+      omega (arith, long, rest),
+      omega (arith, long, rest),
+      elim (cases_lt (length xs - 128 * i) 128) [
+        | inl less ↦ inr (omega (arith, long, rest, less, within))
+        | inr more ↦ inl (omega (arith, long, rest, more))
+      ],
     )
 
--- ---- the chain of a location
+get_or-group : {A : Type 0} (xs : List A) (i j : ℕ) (d : A) → j < 128 → get_or (group_at xs i) j d ≡ get_or xs (128 * i + j) d
+get_or-group xs i j d l = get_or-take 128 (drop (128 * i) xs) j d l ∙ get_or-drop (128 * i) xs j d
 
-pub maybe_cons : (parts : LineParts) (number : ℕ) (chain : List FrameRecord) → (number ≡ 0 → ⊥)
-    → IsMaybeChain parts number chain → (f : FrameRecord) × (fs : List FrameRecord) × (chain ≡ f ∷ fs)
-    × IsChainNumber parts number (f ∷ fs)
-maybe_cons parts number [] some is = absurd (some is)
-maybe_cons parts number (f ∷ fs) some is = (f, fs, refl, is)
+-- ---- the groups of a table
 
-pub maybe_nil : (parts : LineParts) (number : ℕ) (chain : List FrameRecord) → number ≡ 0 → IsMaybeChain parts number chain → chain ≡ []
-maybe_nil parts number [] none is = refl
-maybe_nil parts number (f ∷ fs) none is = absurd (omega (arith, none, is.some))
+abbrev numbers_in : LineParts → List StepNumbers
+numbers_in parts = map (numbers_of parts) parts.steps
+
+-- the steps of the group of an index
+abbrev rows_at : LineParts → ℕ → List StepNumbers
+rows_at parts i = group_at (numbers_in parts) i
+
+group_there : (parts : LineParts) (i : ℕ) (d : GroupRecord) → i < length (groups_in_parts parts)
+    → get_or (groups_in_parts parts) i d ≡ step_group (rows_at parts i)
+group_there parts i d l =
+    let numbers : List StepNumbers = numbers_in parts in
+    let range : List ℕ = range_with_len 0 (groups_in (length numbers)) in
+    let within : i < groups_in (length numbers) = omega (arith, l, length-groups parts, ap groups_in (length-map parts.steps (numbers_of parts))) in
+    let long : length (groups_of numbers) ≡ groups_in (length numbers) =
+    length-map range (group_at numbers) ∙ length-range_with_len 0 (groups_in (length numbers)) in
+    get_or-map step_group (groups_of numbers) i [] d (omega (arith, within, long))
+    ∙ ap step_group (get_or-map (group_at numbers) range i 0 [] (omega (arith, within, length-range_with_len 0 (groups_in (length numbers))))
+    ∙ ap (group_at numbers) (get_or-range_with_len 0 (groups_in (length numbers)) i 0 within ∙ omega arith))
+
+abbrev IsAtMostTen : Type 0
+IsAtMostTen = (number : ℕ) → length (signed_leb128_bytes number) ≤ 10
+
+module _ (few : IsAtMostTen) where
+  few_difference : (before number : ℕ) → length (difference_bytes before number) ≤ 10
+  unfolding difference_bytes
+  few_difference before number = few _
+
+  few_step : (before step : StepNumbers) → length (step_bytes before step) ≤ 40
+  unfolding step_bytes
+  few_step before step =
+      let a : List ℕ = difference_bytes before.start step.start in
+      let b : List ℕ = difference_bytes before.scope step.scope in
+      let c : List ℕ = difference_bytes before.line step.line in
+      let d : List ℕ = difference_bytes before.column step.column in
+      omega (
+        arith,
+        length-append a (b ++ (c ++ d)),
+        length-append b (c ++ d),
+        length-append c d,
+        few_difference before.start step.start,
+        few_difference before.scope step.scope,
+        few_difference before.line step.line,
+        few_difference before.column step.column,
+      )
+
+  few_steps : (before : StepNumbers) (steps : List StepNumbers) → length (steps_bytes before steps) ≤ 40 * length steps
+  unfolding steps_bytes
+  few_steps before [] = omega arith
+  few_steps before (step ∷ steps) =
+      omega (arith, length-append (step_bytes before step) (steps_bytes step steps), few_step before step, few_steps step steps)
+
+-- what a call found in a group: the step of the address is at this index
+pub record IsFoundAt (strings : List ℕ) (steps : List StepRecord) (address : ℕ) (step : StepNumbers) : Type 0 where
+  pub at : ℕ
+  pub within : at < length steps
+  pub is : step ≡ numbers_of (parts_of strings steps) (get_or steps at no_step)
+  pub last : IsLastNotAbove (starts_of steps) address at
+
+module _ (strings : List ℕ) (steps : List StepRecord) (widths : HaveWidths strings steps) where
+  abbrev parts : LineParts
+  parts = parts_of strings steps
+
+  pub scope_fits : (frames : List FrameRecord) → scope_number parts frames < 2 ^ 32
+  scope_fits frames = omega (arith, number_within same_chain chain_decides parts.scopes (scope_of frames), widths.few.scopes)
+
+  numbers_long : length (numbers_in parts) ≡ length steps
+  numbers_long = length-map steps (numbers_of parts)
+
+  numbers_there : (k : ℕ) (d : StepNumbers) → k < length steps → get_or (numbers_in parts) k d ≡ numbers_of parts (get_or steps k no_step)
+  numbers_there k d l = get_or-map (numbers_of parts) steps k no_step d l
+
+  numbers_fit : All FitsStep (numbers_in parts)
+  numbers_fit k d l =
+      let within : k < length steps = omega (arith, l, numbers_long) in
+      let lines = step_fits steps widths.lines k no_step within in
+      let start = widths.starts k no_step within in
+      subst FitsStep (sym (numbers_there k d within)) (record {
+        start = start;
+        scope = omega (arith, scope_fits (get_or steps k no_step).frames);
+        line = omega (arith, lines.0);
+        column = omega (arith, lines.1);
+      })
+
+  rows_fit : (i : ℕ) → All FitsStep (rows_at parts i)
+  rows_fit i = All-take FitsStep 128 (drop (128 * i) (numbers_in parts)) (All-drop FitsStep (128 * i) (numbers_in parts) numbers_fit)
+
+  key_fits : (rows : List StepNumbers) → All FitsStep rows → first_start rows < 2 ^ 64
+  key_fits [] fit = omega arith
+  key_fits (row ∷ rows) fit = (fit 0 row (omega arith)).start
+
+  pub groups_fit : IsAtMostTen → AreGroups (groups_in_parts parts)
+  groups_fit few i d l =
+      subst (λ (g : GroupRecord). (g.key < 2 ^ 64) × (length g.bytes ≤ 5120)) (sym (group_there parts i d l)) (
+        key_fits (rows_at parts i) (rows_fit i),
+        omega (arith, few_steps few no_numbers (rows_at parts i), length-take 128 (drop (128 * i) (numbers_in parts))),
+      )
+
+  -- the position of a step fits
+  pub position_fits : (k : ℕ) → k < length steps → FitsPosition (numbers_of parts (get_or steps k no_step))
+  position_fits k l =
+      let lines = step_fits steps widths.lines k no_step l in
+      record { scope = scope_fits (get_or steps k no_step).frames; line = lines.0; column = lines.1 }
+
+  -- ---- the last step in a group
+
+  module _ (read_back : IsReadBack) (index : ℕ) (there : index < groups_in (length steps)) where
+    abbrev rows : List StepNumbers
+    rows = rows_at parts index
+
+    size : (length rows ≤ 128) × (128 * index + length rows ≤ length steps) × ((length rows ≡ 128) ⊎ (128 * index + length rows ≡ length steps))
+    size =
+        let whole = group_size (numbers_in parts) index (omega (arith, there, numbers_long)) in
+        (whole.0, omega (arith, whole.1, numbers_long), elim whole.2 [ inl full ↦ inl full | inr rest ↦ inr (omega (arith, rest, numbers_long)) ])
+
+    some_rows : 0 < length rows
+    some_rows = elim size.2 [ inl full ↦ omega (arith, full) | inr rest ↦ omega (arith, rest, there) ]
+
+    row_there : (j : ℕ) (d : StepNumbers) → j < length rows → get_or rows j d ≡ numbers_of parts (get_or steps (128 * index + j) no_step)
+    row_there j d l =
+        get_or-group (numbers_in parts) index j d (omega (arith, l, size.0)) ∙ numbers_there (128 * index + j) d (omega (arith, l, size.1))
+
+    start_of_row : (j : ℕ) → j < length rows → (get_or rows j no_numbers).start ≡ get_or (starts_of steps) (128 * index + j) 0
+    start_of_row j l =
+        ap (λ (s : StepNumbers). s.start) (row_there j no_numbers l)
+        ∙ sym (start_at steps (128 * index + j) no_step 0 (omega (arith, l, size.1)))
+
+    first_is : (xs : List StepNumbers) → 0 < length xs → first_start xs ≡ (get_or xs 0 no_numbers).start
+    first_is [] some = absurd (omega arith)
+    first_is (x ∷ xs) some = refl
+
+    pub key_at : get_or (keys_of (groups_in_parts parts)) index 0 ≡ get_or (starts_of steps) (128 * index) 0
+    key_at =
+        let d : GroupRecord = record { key = 0; bytes = [] } in
+        let within : index < length (groups_in_parts parts) = omega (arith, there, length-groups parts) in
+        let first : 128 * index + 0 ≡ 128 * index = omega arith in
+        get_or-map (λ (g : GroupRecord). g.key) (groups_in_parts parts) index d 0 within
+        ∙ ap (λ (g : GroupRecord). g.key) (group_there parts index d within)
+        ∙ first_is rows some_rows ∙ start_of_row 0 some_rows ∙ ap (λ k. get_or (starts_of steps) k 0) first
+
+    -- the steps of a group can be read
+    pub are_steps : (address : ℕ) → AreNoSteps (group_bytes_of parts index) address → ⊥
+    are_steps address none =
+        let read = read_within read_back none.count rows none.step none.rest (rows_fit index) none.are.read in
+        elim (cases_lt none.count (length rows)) [
+          | inl less ↦
+              let next = next_read read_back none.count rows none.step none.rest (rows_fit index) read.1 read.2 less in
+              none-some (get_or rows none.count no_numbers, next.0) (sym none.none ∙ next.1)
+          | inr all ↦ none.some (read.2 ∙ end_back read_back none.count none.step rows all)
+        ]
+
+    module _ (address : ℕ) (step : StepNumbers) (is : IsLastStep (group_bytes_of parts index) address step)
+        (rising : AreAscending (starts_of steps)) (first : get_or (starts_of steps) (128 * index) 0 ≤ address)
+        (past : 128 * (index + 1) < length steps → address < get_or (starts_of steps) (128 * (index + 1)) 0) where
+      read : (is.count ≤ length rows) × (step ≡ last_of is.count no_numbers rows) × (is.rest ≡ steps_bytes step (drop is.count rows))
+      read = read_within read_back is.count rows step is.rest (rows_fit index) is.are.read
+
+      -- the next step of the group starts above the address
+      next_above : is.count < length rows → address < get_or (starts_of steps) (128 * index + is.count) 0
+      next_above less =
+          let next = next_read read_back is.count rows step is.rest (rows_fit index) read.1 read.2 less in
+          elim is.next [
+            | inl none ↦ absurd (not_ended read_back step (get_or rows is.count no_numbers, next.0) is.rest none next.1)
+            | inr x ↦
+                let same = same_Some x.0 (get_or rows is.count no_numbers, next.0) (sym x.1 ∙ next.1) in
+                let start : x.0.0.start ≡ (get_or rows is.count no_numbers).start = ap (λ (y : StepNumbers × List ℕ). y.0.start) same in
+                omega (arith, x.2, start, start_of_row is.count less)
+          ]
+
+      others_above : (j : ℕ) → is.count ≡ suc j → (m : ℕ) → 128 * index + j < m → m < length (starts_of steps) → address < get_or (starts_of steps) m 0
+      others_above j counted m more l = elim (cases_lt is.count (length rows)) [
+        | inl less ↦
+            omega (
+              arith,
+              next_above less,
+              not_less (starts_of steps) rising (128 * index + is.count) m (omega (arith, counted, more)) l,
+            )
+        | inr all ↦ elim size.2 [
+          | inl full ↦
+              let reach : 128 * (index + 1) ≤ m = omega (arith, full, all, counted, read.0, more) in
+              omega (arith, past (omega (arith, reach, l, starts_long steps)), not_less (starts_of steps) rising (128 * (index + 1)) m reach l)
+          | inr rest ↦ absurd (omega (arith, rest, all, counted, read.0, more, l, starts_long steps))
+        ]
+      ]
+
+      found_after : (j : ℕ) → is.count ≡ suc j → IsFoundAt strings steps address step
+      found_after j counted =
+          let inside : j < length rows = omega (arith, counted, read.0) in
+          let at : ℕ = 128 * index + j in
+          let within : at < length steps = omega (arith, inside, size.1) in
+          let row : step ≡ get_or rows j no_numbers =
+          read.1 ∙ ap (λ k. last_of k no_numbers rows) counted ∙ last_at j no_numbers rows no_numbers inside in
+          let start : step.start ≡ get_or (starts_of steps) at 0 = ap (λ (s : StepNumbers). s.start) row ∙ start_of_row j inside in
+          record {
+            at = at;
+            within = within;
+            is = row ∙ row_there j no_numbers inside;
+            last = record {
+              stands = omega (arith, within, starts_long steps);
+              not_above =
+                  omega (arith, start, is.are.up_to is.count (step, is.rest) (omega (arith, counted)) (omega arith) is.are.read);
+              others = λ m more l. others_above j counted m more l;
+            };
+          }
+
+      pub found_at : IsFoundAt strings steps address step
+      found_at = by_count is.count refl
+        where
+          by_count : (count : ℕ) → is.count ≡ count → IsFoundAt strings steps address step
+          by_count zero none =
+              let here = next_above (omega (arith, none, some_rows)) in
+              let same : 128 * index + is.count ≡ 128 * index = omega (arith, none) in
+              absurd (omega (arith, first, subst (λ k. address < get_or (starts_of steps) k 0) same here))
+          by_count (suc j) counted = found_after j counted
+
+    -- the position of what is found in a group fits
+    pub last_fits : (address : ℕ) (step : StepNumbers) → IsLastStep (group_bytes_of parts index) address step → FitsPosition step
+    last_fits address step is = by_count is.count refl
+      where
+        there_is : (is.count ≤ length rows) × (step ≡ last_of is.count no_numbers rows) × (is.rest ≡ steps_bytes step (drop is.count rows))
+        there_is = read_within read_back is.count rows step is.rest (rows_fit index) is.are.read
+
+        by_count : (count : ℕ) → is.count ≡ count → FitsPosition step
+        by_count zero none =
+            subst FitsPosition (sym (there_is.1 ∙ ap (λ k. last_of k no_numbers rows) none ∙ last_none no_numbers rows))
+            (record { scope = omega arith; line = omega arith; column = omega arith })
+        by_count (suc j) counted =
+            let inside : j < length rows = omega (arith, counted, there_is.0) in
+            let row : step ≡ numbers_of parts (get_or steps (128 * index + j) no_step) =
+            there_is.1 ∙ ap (λ k. last_of k no_numbers rows) counted ∙ last_at j no_numbers rows no_numbers inside ∙ row_there j no_numbers inside in
+            subst FitsPosition (sym row) (position_fits (128 * index + j) (omega (arith, inside, size.1)))
+
+  -- ---- the position of an address
+
+  pub position_of_step : (k : ℕ) (step : StepNumbers) → k < length steps → step ≡ numbers_of parts (get_or steps k no_step)
+      → IsPosition parts step.scope step.line step.column (frames_at steps (Some k))
+  position_of_step k step within is =
+      let s : StepRecord = get_or steps k no_step in
+      let has = step_has steps k s (slice_get-get_or steps k no_step within) in
+      subst (IsPosition parts step.scope step.line step.column) (sym (frames_there steps k no_step within)) (record {
+        scope = maybe_scope strings steps s.frames step.scope (ap (λ (n : StepNumbers). n.scope) is) has;
+        line = ap (λ (n : StepNumbers). n.line) is;
+        column = ap (λ (n : StepNumbers). n.column) is;
+      })
+
+  -- before the first group there is no step
+  pub none_for : (address : ℕ) → AreAscending (starts_of steps)
+      → (0 < groups_in (length steps) → address < get_or (starts_of steps) 0 0) → IsStepFor (starts_of steps) address None
+  none_for address rising above j l =
+      omega (arith, above (omega (arith, l, starts_long steps)), not_less (starts_of steps) rising 0 j (omega arith) l)
+
+-- the groups of an opened table
+pub opened_groups : IsAtMostTen → (table : LineTable) (pages : Pages) (text all strings : List ℕ) (steps : List StepRecord)
+    → IsOpened table pages text all strings steps → AreGroupsIn all (groups_place table) (groups_in_parts (parts_of strings steps))
+opened_groups few table pages text all strings steps opened = record {
+  stands = groups_at table pages text all strings steps opened;
+  count = ap groups_in opened.head.steps ∙ sym (length-groups (parts_of strings steps));
+  size = opened.head.step_bytes;
+  fit = groups_fit strings steps opened.widths few;
+}
+
+-- the bytes of a group that were read
+pub group_here : (all bytes : List ℕ) (parts : LineParts) (index offset count n : ℕ)
+    → IsBytesOf all (groups_in_parts parts) index offset count → index < length (groups_in_parts parts) → n ≡ count
+    → bytes ≡ take n (drop offset all) → bytes ≡ group_bytes_of parts index
+group_here all bytes parts index offset count n are l long came =
+    let d : GroupRecord = record { key = 0; bytes = [] } in
+    came ∙ ap (λ k. take k (drop offset all)) long ∙ are.are d ∙ ap (λ (g : GroupRecord). g.bytes) (group_there parts index d l)
+
+-- a step that was read from the bytes of a group is stored
+pub stored_step : (table : LineTable) (all bytes : List ℕ) (index address : ℕ) (step : StepNumbers)
+    → bytes ≡ stored_group all (groups_place table) index → IsLastStep bytes address step → IsStoredStep table all step
+stored_step table all bytes index address step same is = record {
+  group = index;
+  count = is.count;
+  rest = is.rest;
+  read = subst (λ b. steps_on is.count no_numbers b ≡ Some (step, is.rest)) same is.are.read;
+}
+
+-- the position of a step is that of its frames
+pub position_as : (parts : LineParts) (position : Position) (step : StepNumbers) (frames : List FrameRecord)
+    → IsPositionOf step position → IsPosition parts step.scope step.line step.column frames → HasPosition parts position frames
+position_as parts position step frames same is = record {
+  scope = subst (λ k. IsMaybeScope parts k frames) (sym same.scope) is.scope;
+  line = same.line ∙ is.line;
+  column = same.column ∙ is.column;
+}
+
+-- ---- the frames of a scope
+
+pub maybe_cons : (parts : LineParts) (number line column : ℕ) (chain : List FrameRecord) → (number ≡ 0 → ⊥)
+    → IsPosition parts number line column chain → (f : FrameRecord) × (fs : List FrameRecord) × (chain ≡ f ∷ fs)
+    × IsScopeNumber parts number (scope_of (f ∷ fs)) × (line ≡ f.line) × (column ≡ f.column)
+maybe_cons _ number line column [] some is = absurd (some is.scope)
+maybe_cons _ number line column (f ∷ fs) some is = (f, fs, refl, is.scope, is.line, is.column)
+
+pub maybe_nil : (parts : LineParts) (number line column : ℕ) (chain : List FrameRecord) → number ≡ 0
+    → IsPosition parts number line column chain → chain ≡ []
+maybe_nil _ number line column [] none is = refl
+maybe_nil _ number line column (f ∷ fs) none is = absurd (omega (arith, none, is.scope.some))
 
 -- one more frame was read
 pub pushed : (items more : List OwnedFrame) (frame : OwnedFrame) (f : FrameRecord) (fs rest chain : List FrameRecord)

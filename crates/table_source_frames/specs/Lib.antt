@@ -1,6 +1,6 @@
 pub mod Steps
-pub mod Runs
 pub mod Numbering
+pub mod StepGroups
 pub mod LineText
 pub mod LineTable
 pub mod Opened

@@ -6,7 +6,6 @@ ghost use Rattle.table_checked_pages.specs.Views.{KeepsPages};
 ghost use Rattle.dwarf_lines.specs.Paths.{PathRecord};
 ghost use Rattle.table_source_frames.specs.FrameViews.{owned_path_view};
 ghost use Rattle.table_source_frames.specs.Inner.{HasTextsOf, IsFileIn, IsFileNumber, IsFileRow, IsMaybeFile};
-ghost use Rattle.table_source_frames.specs.LineText.{parts_of};
 ghost use Rattle.table_source_frames.specs.OfBytes.{IsMaybeStoredPath, IsTrueOfBytes};
 ghost use Rattle.table_source_frames.specs.Opened.{ReadsPart};
 
@@ -28,8 +27,8 @@ impl LineTable {
         ensures claim { pages.new.claim ≡ pages.old.claim }
         ensures keeps { KeepsPages P.whole device.old pages.old pages.new }
         ensures read { ReadsPart PathRecord P.whole P.failures device.old device.new result self.now pages.old
-            (λ steps path. IsFileNumber (parts_of steps) number path)
-            (λ steps path row. IsFileRow (parts_of steps) row path) }
+            (λ parts path. IsFileNumber parts number path)
+            (λ parts path row. IsFileRow parts row path) }
         ensures bytes { IfOk result (λ row. IsTrueOfBytes P.whole device.old pages.old
             (λ all. IsFileIn self.now all number row)) }
     {
@@ -57,7 +56,7 @@ impl LineTable {
         ensures claim { pages.new.claim ≡ pages.old.claim }
         ensures keeps { KeepsPages P.whole device.old pages.old pages.new }
         ensures read { ReadsPart PathRecord P.whole P.failures device.old device.new result self.now pages.old
-            (λ steps told. IsFileRow (parts_of steps) row told)
+            (λ parts told. IsFileRow parts row told)
             (λ _ told path. owned_path_view path ≡ told) }
         ensures bytes { IfOk result (λ path. IsTrueOfBytes P.whole device.old pages.old
             (λ all. HasTextsOf self.now all row (owned_path_view path))) }
@@ -83,7 +82,7 @@ impl LineTable {
         ensures claim { pages.new.claim ≡ pages.old.claim }
         ensures keeps { KeepsPages P.whole device.old pages.old pages.new }
         ensures read { ReadsPart (Option PathRecord) P.whole P.failures device.old device.new result self.now pages.old
-            (λ steps told. IsMaybeFile (parts_of steps) number told)
+            (λ parts told. IsMaybeFile parts number told)
             (λ _ told found. option_map owned_path_view found ≡ told) }
         ensures bytes { IfOk result (λ found. IsTrueOfBytes P.whole device.old pages.old
             (λ all. IsMaybeStoredPath self.now all number (option_map owned_path_view found))) }

@@ -34,10 +34,11 @@ pub fn one_list_of_steps()
     one_list_of_frames();
 }
 
-/// Steps have one text for each limit on its size.
+/// Steps have one text in a slice with some strings, for each limit on its size.
 pub fn one_text()
-    ensures { (room : ℕ) (steps : List StepRecord) (bytes others : List ℕ) → IsLineTextWithin room steps bytes
-        → IsLineTextWithin room steps others → bytes ≡ others }
+    ensures { (room : ℕ) (strings : List ℕ) (steps : List StepRecord) (bytes others : List ℕ)
+        → IsLineTextWithin room strings steps bytes → IsLineTextWithin room strings steps others
+        → bytes ≡ others }
 {}
 
 /// An image has one line table.

@@ -2,14 +2,8 @@
 
 ghost use Rattle.std.specs.Prelude.{◌≡◌, ◌+◌, ◌<◌, ◌≤◌, IfSome, None};
 
-/// The size of a run in bytes.
-pub(crate) const RUN_LEN: usize = 8;
-
-/// The size of a step in bytes.
-pub(crate) const STEP_LEN: usize = 8;
-
-/// The size of a location in bytes.
-pub(crate) const LOCATION_LEN: usize = 20;
+/// The size of a scope in bytes.
+pub(crate) const SCOPE_LEN: usize = 20;
 
 /// The size of a file in bytes.
 pub(crate) const FILE_LEN: usize = 12;
@@ -17,33 +11,31 @@ pub(crate) const FILE_LEN: usize = 12;
 /// The size of the row of a text in bytes.
 pub(crate) const TEXT_LEN: usize = 8;
 
-/// A run: the steps whose starts have the same upper half.
-#[derive(Clone, Copy)]
-pub(crate) struct Run {
-    /// The upper half.
-    pub upper: u32,
-    /// The number of steps up to its last.
-    pub steps: u32,
-}
-
-/// A step: the location of the innermost frame from an address on, up to the next step.
+/// The numbers of a step: its start, and the scope of the innermost frame from there on, up to the next step, with its
+/// line and column; 0 if there are no frames. They are any numbers until a frame is made of them.
 #[derive(Clone, Copy)]
 pub(crate) struct Step {
-    /// The lower half of the address.
-    pub lower: u32,
-    /// The number of the location, from 1 on; 0 if there are no frames.
-    pub location: u32,
+    pub start: u64,
+    pub scope: u64,
+    pub line: u64,
+    pub column: u64,
 }
 
-/// A location: the name, file, line and column of a frame, and the location of its caller. Each number is from 1 on,
-/// and 0 for none.
+/// The scope of a frame, from 1 on, or 0 for no frame, and the line and the column of the frame.
 #[derive(Clone, Copy)]
-pub(crate) struct Location {
-    pub name: u32,
-    pub file: u32,
+pub(crate) struct Position {
+    pub scope: u32,
     pub line: u32,
     pub column: u32,
-    pub caller: u32,
+}
+
+/// A scope: the numbers of the name and of the file of a frame, each from 1 on, and 0 for none; and the position of the
+/// frame that calls it.
+#[derive(Clone, Copy)]
+pub(crate) struct Scope {
+    pub name: u32,
+    pub file: u32,
+    pub caller: Position,
 }
 
 /// A file: the numbers of the texts of its path.

@@ -1,123 +1,128 @@
-//! The step of an address, by binary search.
+//! The step of an address: a binary search among the groups, and one group from its front.
 
-ghost use Rattle.std.specs.Prelude.{◌≡◌, ◌+◌, ◌<◌, ◌≤◌, ℕ, List, Option, IfOk};
+ghost use Rattle.std.specs.Prelude.{◌≡◌, ◌<◌, ◌≤◌, ◌^◌, ℕ, List, Option, IfErr, IfOk};
+ghost use Rattle.table_checked_pages.specs.Groups.{groups_in};
+ghost use Rattle.table_checked_pages.specs.GroupViews.{groups_view};
 ghost use Rattle.table_checked_pages.specs.Views.{KeepsPages};
 ghost use Rattle.table_checked_pages.specs.Reading.{ReadsStored};
-ghost use Rattle.table_source_frames.specs.Inner.{AreBelow, IsMaybeChain, IsStepRow};
+ghost use Rattle.table_source_frames.specs.Inner.{FitsPosition, HasPosition, IsLastStep, IsPositionIn, IsPositionOf};
+ghost use Rattle.table_source_frames.specs.Inner.{group_bytes_of, step_view};
 ghost use Rattle.table_source_frames.specs.LineText.{parts_of};
-ghost use Rattle.table_source_frames.specs.Opened.{IsOpened, IsUnstored, ReadsTable};
+ghost use Rattle.table_source_frames.specs.OfBytes.{IsStoredStep, IsTrueOfBytes, groups_place};
+ghost use Rattle.table_source_frames.specs.Opened.{IsOpened, IsUnstored};
 ghost use Rattle.table_source_frames.specs.Steps.{AreAscending, IsStepFor, StepRecord, frames_at, starts_of};
 
-use crate::halves::{lower_half, upper_half};
-use crate::row::{STEP_LEN, Step};
-use crate::table::LineTable;
+use crate::row::{Position, Step};
+use crate::steps::last_step;
+use crate::table::{HEAD_LEN, LineTable};
 use byte_device::Placed;
-use table_checked_pages::{CheckFault, Pages, Sought, partition_point, u32_be_at};
+use dwarf_encoding::laws::{at_most_ten_bytes, numbers_are_read_back};
+use table_checked_pages::{CheckFault, GROUP_MOST, Groups, Pages, groups_in};
 
-/// The steps of a table whose lower half is not above the lower half of an address.
-#[derive(Drop)]
-struct LowersUpTo<'t> {
-    table: &'t LineTable,
-    address: u64,
-}
+/// The position of an address without frames.
+const NO_POSITION: Position = Position {
+    scope: 0,
+    line: 0,
+    column: 0,
+};
 
-impl<'t> Sought for LowersUpTo<'t> {
-    ghost use Rattle.std.specs.Prelude.{slice_index};
-    ghost use Rattle.table_source_frames.specs.Opened.{IsTextOf};
-    ghost use Rattle.table_source_frames.specs.Runs.{lower_half};
-
-    ghost Rows = { List StepRecord };
-
-    ghost stand = { λ s steps all. IsTextOf s.table.now all steps };
-
-    ghost is_held = { λ s all. (steps : List StepRecord) × IsTextOf s.table.now all steps };
-
-    ghost is_below = { λ s steps place.
-        lower_half (slice_index (starts_of steps) place) ≤ lower_half s.address };
-
-    ghost count = { λ s. s.table.now.steps };
-
-    fn is_below<P: Placed>(
-        &self,
-        device: &mut P,
-        pages: &mut Pages,
-        place: u64,
-    ) -> Result<bool, CheckFault> {
-        let step = self.table.step_at(device, pages, place)?;
-        Ok(step.lower <= lower_half(self.address))
+/// A number of a position. The error is `Changed` if it does not fit.
+fn fitted(number: u64) -> Result<u32, CheckFault>
+    ensures fits { IfOk result (λ fitted. fitted ≡ number) }
+    ensures fault { IfErr result (λ fault. (fault ≡ CheckFault.Changed) × (2 ^ 32 ≤ number)) }
+{
+    match u32::try_from(number) {
+        Ok(fitted) => Ok(fitted),
+        Err(_) => Err(CheckFault::Changed),
     }
 }
 
+/// The position of a step. The error is `Changed` if one of its numbers does not fit.
+fn position_of(step: Step) -> Result<Position, CheckFault>
+    ensures fits { IfOk result (λ position. IsPositionOf (step_view step) position) }
+    ensures fault { IfErr result (λ fault. (fault ≡ CheckFault.Changed) × (FitsPosition (step_view step) → ⊥)) }
+{
+    let scope = fitted(step.scope)?;
+    let line = fitted(step.line)?;
+    let column = fitted(step.column)?;
+    Ok(Position {
+        scope,
+        line,
+        column,
+    })
+}
+
 impl LineTable {
-    /// The step at an index.
-    fn step_at<P: Placed>(
+    /// The groups of steps.
+    fn groups(&self) -> Groups
+        ensures { groups_view result ≡ groups_place self.now }
+    {
+        Groups {
+            offset: self.offset + HEAD_LEN as u64,
+            count: groups_in(self.steps),
+            size: self.step_bytes,
+        }
+    }
+
+    /// The last step of the group at an index that does not start above an address.
+    fn step_in_group<P: Placed>(
         &self,
         device: &mut P,
         pages: &mut Pages,
         index: u64,
+        address: u64,
     ) -> Result<Step, CheckFault>
-        requires { index < self.now.steps }
-        ensures claim { pages.new.claim ≡ pages.old.claim }
-        ensures keeps { KeepsPages P.whole device.old pages.old pages.new }
-        ensures read { ReadsTable P.whole P.failures device.old device.new result self.now pages.old
-            (λ steps row. IsStepRow steps index row) }
-    {
-        let mut bytes = [0; STEP_LEN];
-        let offset = self.first_step() + STEP_LEN as u64 * index;
-        pages.read(device, offset, &mut bytes)?;
-        Ok(Step {
-            lower: u32_be_at(&bytes, 0),
-            location: u32_be_at(&bytes, 4),
-        })
-    }
-
-    /// The number of steps that start at or below an address: those with a smaller upper half, and those with the same
-    /// upper half and no greater lower half. One step is read in each step of the binary search.
-    fn steps_up_to<P: Placed>(
-        &self,
-        device: &mut P,
-        pages: &mut Pages,
-        address: u64,
-    ) -> Result<u64, CheckFault>
-        ensures claim { pages.new.claim ≡ pages.old.claim }
-        ensures keeps { KeepsPages P.whole device.old pages.old pages.new }
-        ensures within { IfOk result (λ count. count ≤ self.now.steps) }
-        ensures read { ReadsStored P.whole P.failures device.old device.new result
-            (λ text count. (all : List ℕ) (steps : List StepRecord) → AreAscending (starts_of steps)
-            → IsOpened self.now pages.old text all steps → AreBelow (starts_of steps) (address + 1) count)
-            (IsUnstored self.now pages.old) }
-    {
-        let upper = u64::from(upper_half(address));
-        let low = self.steps_below(device, pages, upper)?;
-        let high = self.steps_below(device, pages, upper + 1)?;
-        let sought = LowersUpTo {
-            table: self,
-            address,
-        };
-        partition_point(device, pages, &sought, low, high)
-    }
-
-    /// The number of the location of an address; 0 if it has no frames.
-    pub(crate) fn location_for<P: Placed>(
-        &self,
-        device: &mut P,
-        pages: &mut Pages,
-        address: u64,
-    ) -> Result<u32, CheckFault>
+        requires { index < groups_in self.now.steps }
         ensures claim { pages.new.claim ≡ pages.old.claim }
         ensures keeps { KeepsPages P.whole device.old pages.old pages.new }
         ensures read { ReadsStored P.whole P.failures device.old device.new result
-            (λ text number. (all : List ℕ) (steps : List StepRecord) → AreAscending (starts_of steps)
-            → IsOpened self.now pages.old text all steps
-            → (found : Option ℕ) × IsStepFor (starts_of steps) address found
-            × IsMaybeChain (parts_of steps) number (frames_at steps found))
+            (λ text step. (all strings : List ℕ) (steps : List StepRecord)
+            → IsOpened self.now pages.old text all strings steps
+            → IsLastStep (group_bytes_of (parts_of strings steps) index) address (step_view step))
             (IsUnstored self.now pages.old) }
+        ensures bytes { IfOk result (λ step. IsTrueOfBytes P.whole device.old pages.old
+            (λ all. IsStoredStep self.now all (step_view step))) }
     {
-        let count = self.steps_up_to(device, pages, address)?;
-        if count == 0 {
-            return Ok(0);
+        at_most_ten_bytes();
+        numbers_are_read_back();
+        let groups = self.groups();
+        let (offset, count) = groups.place(device, pages, index)?;
+        let mut room = [0; GROUP_MOST];
+        let group = &mut room[..count];
+        pages.read(device, offset, group)?;
+        match last_step(group, address) {
+            Some(step) => Ok(step),
+            None => Err(CheckFault::Changed),
         }
-        let step = self.step_at(device, pages, count - 1)?;
-        Ok(step.location)
+    }
+
+    /// The position of the innermost frame of an address; with scope 0 if it has no frames.
+    pub(crate) fn position_for<P: Placed>(
+        &self,
+        device: &mut P,
+        pages: &mut Pages,
+        address: u64,
+    ) -> Result<Position, CheckFault>
+        ensures claim { pages.new.claim ≡ pages.old.claim }
+        ensures keeps { KeepsPages P.whole device.old pages.old pages.new }
+        ensures read { ReadsStored P.whole P.failures device.old device.new result
+            (λ text position. (all strings : List ℕ) (steps : List StepRecord) → AreAscending (starts_of steps)
+            → IsOpened self.now pages.old text all strings steps
+            → (found : Option ℕ) × IsStepFor (starts_of steps) address found
+            × HasPosition (parts_of strings steps) position (frames_at steps found))
+            (IsUnstored self.now pages.old) }
+        ensures bytes { IfOk result (λ position. IsTrueOfBytes P.whole device.old pages.old
+            (λ all. IsPositionIn self.now all position)) }
+    {
+        at_most_ten_bytes();
+        numbers_are_read_back();
+        let groups = self.groups();
+        let count = groups.up_to(device, pages, address)?;
+        if count == 0 {
+            return Ok(NO_POSITION);
+        }
+        let step = self.step_in_group(device, pages, count - 1, address)?;
+        let position = position_of(step)?;
+        Ok(position)
     }
 }

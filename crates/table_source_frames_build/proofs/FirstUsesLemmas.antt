@@ -121,7 +121,7 @@ module _ {A : Type 0} (P : ℕ → Type 0) (f : ℕ → A) (same : A → A → B
   told_any [] n each p = refl
   told_any (x ∷ xs) n each p = rw (told_same n x p each.0, told_any xs n each.1 p) refl
 
-  told_with : (xs : List ℕ) (n : ℕ) → Each P xs → P n → numbered_with same (map f xs) (f n) ≡ map f (numbered_with nat_eq xs n)
+  pub told_with : (xs : List ℕ) (n : ℕ) → Each P xs → P n → numbered_with same (map f xs) (f n) ≡ map f (numbered_with nat_eq xs n)
   told_with xs n each p = elim (cases_Bool (list_any (nat_eq n) xs)) [
     | inl t ↦ let is : list_any (same (f n)) (map f xs) ≡ true = told_any xs n each p ∙ t in rw (t, is) refl
     | inr e ↦ let is : list_any (same (f n)) (map f xs) ≡ false = told_any xs n each p ∙ e in rw (e, is) (sym (map-append f xs (n ∷ [])))

@@ -1,5 +1,5 @@
 -- What is kept of frames: each thing once, told by number.
-use Rattle.std.proofs.Common.{◌≡◌, ℕ, zero, suc, ◌<◌, ◌≤◌, ◌^◌, true, false, List, [], ◌∷◌, ◌++◌, map, length, slice_get, get_or, Option, Some, refl, sym, ap}
+use Rattle.std.proofs.Common.{◌≡◌, ℕ, zero, suc, ◌<◌, ◌≤◌, true, false, List, [], ◌∷◌, ◌++◌, map, length, slice_get, get_or, Option, Some, refl, sym, ap}
 use Rattle.std.proofs.Common.{◌∙◌, inl, inr, arith, ◌⊎◌, subst, is_eq, Ordering, option_map}
 use Rattle.std.proofs.lemmas.Bool.{cases_eq}
 use Rattle.std.proofs.lemmas.List.{append-nil, get_or-map, get_or_append_left, get_or_push, length-append, length-map, length_push, map-append}
@@ -7,13 +7,15 @@ use Rattle.std.proofs.lemmas.Option.{get_or_from_slice_get, slice_get-get_or, sl
 use Rattle.dwarf_lines.specs.Paths.{PathRecord}
 use Rattle.dwarf_source_frames.specs.Frames.{FrameRecord}
 use Rattle.table_source_frames_build.specs.Kept.{KeptRecord, numbered_or, at_number, text_at, file_key_at, path_of_key}
-use Rattle.table_source_frames_build.specs.Kept.{file_at, location_key_at, frame_of_key, callers_within, callers_of}
-use Rattle.table_source_frames_build.specs.Kept.{chain_within, chain_at, IsFileKey, IsLocationKey, IsKept, IsNumberedIn}
+use Rattle.table_source_frames_build.specs.Kept.{file_at, scope_key_at, location_key_at, caller_in, frame_in}
+use Rattle.table_source_frames_build.specs.Kept.{frame_of_key, scope_numbers_within, scope_numbers_of, chain_within, chain_at}
+use Rattle.table_source_frames_build.specs.Kept.{IsFileKey, IsScopeKey, IsLocationKey, IsKept, IsNumberedIn, IsScope}
 use Rattle.table_source_frames_build.specs.Kept.{GoesOn, Grows, IsName, IsKeyOf, IsFile, IsLocation}
 use Rattle.table_source_frames_build.specs.Numbering.{IsNumber}
 use Rattle.table_source_frames_build.specs.Numbers.{IsNumbered}
 use Rattle.table_source_frames_build.specs.declared.keys.FileKey.{FileKey}
 use Rattle.table_source_frames_build.specs.declared.keys.LocationKey.{LocationKey}
+use Rattle.table_source_frames_build.specs.declared.keys.ScopeKey.{ScopeKey}
 
 -- ---- elements by their numbers
 
@@ -132,11 +134,23 @@ module _ (old new : KeptRecord) (h : Grows old new) where
     name = number_on old.texts new.texts key.name h.texts is.name;
   }
 
-  pub location_key_on : (n : ℕ) (key : LocationKey) → IsLocationKey old n key → IsLocationKey new n key
-  location_key_on n key is = record {
+  pub scope_key_on : (key : ScopeKey) → IsScopeKey old key → IsScopeKey new key
+  scope_key_on key is = record {
     name = omega (arith, is.name, longer_on old.texts new.texts h.texts);
     file = omega (arith, is.file, longer_on old.files new.files h.files);
-    caller = is.caller;
+    caller = omega (arith, is.caller, longer_on old.locations new.locations h.locations);
+  }
+
+  pub scope_same : (n : ℕ) → n ≤ length old.scopes → scope_key_at new n ≡ scope_key_at old n
+  scope_same n within = or_on old.scopes new.scopes (record { caller = 0; name = 0; file = 0 }) n h.scopes within
+
+  pub caller_same : (key : LocationKey) → key.scope ≤ length old.scopes → caller_in new key ≡ caller_in old key
+  caller_same key within = ap (λ (s : ScopeKey). s.caller) (scope_same key.scope within)
+
+  pub location_key_on : (n : ℕ) (key : LocationKey) → IsLocationKey old n key → IsLocationKey new n key
+  location_key_on n key is = record {
+    scope = number_on old.scopes new.scopes key.scope h.scopes is.scope;
+    caller = omega (arith, is.caller, caller_same key is.scope.within);
   }
 
   pub path_same : (key : FileKey) → IsFileKey old key → path_of_key new key ≡ path_of_key old key
@@ -152,26 +166,32 @@ module _ (old new : KeptRecord) (h : Grows old new) where
         ap (path_of_key new) (or_on old.files new.files (record { base = 0; directory = 0; name = 0 }) n h.files is.within)
         ∙ path_same (file_key_at old n) (kept.each_file n is)
 
-    pub frame_same : (n : ℕ) (key : LocationKey) → IsLocationKey old n key → frame_of_key new key ≡ frame_of_key old key
-    frame_same n key is = λ i. record {
-      name = at_same (text_at new) (text_at old) key.name (λ some. text_same key.name is.name) i;
-      path = at_same (file_at new) (file_at old) key.file (λ some. file_same key.file (record { some = some; within = is.file })) i;
-      line = key.line;
-      column = key.column;
+    pub frame_in_same : (scope : ScopeKey) (line column : ℕ) → IsScopeKey old scope → frame_in new scope line column ≡ frame_in old scope line column
+    frame_in_same scope line column is = λ i. record {
+      name = at_same (text_at new) (text_at old) scope.name (λ some. text_same scope.name is.name) i;
+      path = at_same (file_at new) (file_at old) scope.file (λ some. file_same scope.file (record { some = some; within = is.file })) i;
+      line = line;
+      column = column;
     }
 
+    pub frame_same : (n : ℕ) (key : LocationKey) → IsLocationKey old n key → frame_of_key new key ≡ frame_of_key old key
+    frame_same n key is =
+        ap (λ (s : ScopeKey). frame_in new s key.line key.column) (scope_same key.scope is.scope.within)
+        ∙ frame_in_same (scope_key_at old key.scope) key.line key.column (kept.each_scope key.scope is.scope)
+
     pub key_same : (n : ℕ) → n ≤ length old.locations → location_key_at new n ≡ location_key_at old n
-    key_same n within = or_on old.locations new.locations (record { name = 0; file = 0; line = 0; column = 0; caller = 0 }) n h.locations within
+    key_same n within = or_on old.locations new.locations (record { scope = 0; line = 0; column = 0 }) n h.locations within
 
     chain_within_same : (room n : ℕ) → n ≤ length old.locations → chain_within new room n ≡ chain_within old room n
     unfolding chain_within
     chain_within_same zero n within = refl
     chain_within_same (suc room) zero within = refl
     chain_within_same (suc room) (suc i) within =
-        let key = location_key_at old (suc i) in
+        let key : LocationKey = location_key_at old (suc i) in
         let is : IsLocationKey old (suc i) key = kept.each_location (suc i) (record { some = omega arith; within = within }) in
-        ap (λ (q : LocationKey). frame_of_key new q ∷ chain_within new room q.caller) (key_same (suc i) within)
-        ∙ (λ j. frame_same (suc i) key is j ∷ chain_within_same room key.caller (omega (arith, is.caller, within)) j)
+        ap (λ (q : LocationKey). frame_of_key new q ∷ chain_within new room (caller_in new q)) (key_same (suc i) within)
+        ∙ (λ j. frame_same (suc i) key is j ∷ chain_within new room (caller_same key is.scope.within j))
+        ∙ ap (λ fs. frame_of_key old key ∷ fs) (chain_within_same room (caller_in old key) (omega (arith, is.caller, within)))
 
     pub chain_same : (n : ℕ) → n ≤ length old.locations → chain_at new n ≡ chain_at old n
     unfolding chain_at
@@ -184,12 +204,12 @@ at_some f zero h = absurd (omega arith)
 at_some f (suc i) h = refl
 
 module _ (k : KeptRecord) (kept : IsKept k) where
-  caller_below : (i : ℕ) → suc i ≤ length k.locations → (location_key_at k (suc i)).caller ≤ i
+  caller_below : (i : ℕ) → suc i ≤ length k.locations → caller_in k (location_key_at k (suc i)) ≤ i
   caller_below i within = omega (arith, (kept.each_location (suc i) (record { some = omega arith; within = within })).caller)
 
   rooms : (one two n : ℕ) → n ≤ one → n ≤ two → n ≤ length k.locations
-      → (chain_within k one n ≡ chain_within k two n) × (callers_within k one n ≡ callers_within k two n)
-  unfolding chain_within callers_within
+      → (chain_within k one n ≡ chain_within k two n) × (scope_numbers_within k one n ≡ scope_numbers_within k two n)
+  unfolding chain_within scope_numbers_within
   rooms zero zero zero a b within = (refl, refl)
   rooms zero (suc two) zero a b within = (refl, refl)
   rooms (suc one) zero zero a b within = (refl, refl)
@@ -198,51 +218,61 @@ module _ (k : KeptRecord) (kept : IsKept k) where
   rooms (suc one) zero (suc i) a b within = absurd (omega arith)
   rooms (suc one) (suc two) (suc i) a b within =
       let key : LocationKey = location_key_at k (suc i) in
-      let less : key.caller ≤ i = caller_below i within in
-      let rest = rooms one two key.caller (omega (arith, less, a)) (omega (arith, less, b)) (omega (arith, less, within)) in
-      (ap (λ fs. frame_of_key k key ∷ fs) rest.0, ap (λ ns. suc i ∷ ns) rest.1)
+      let less : caller_in k key ≤ i = caller_below i within in
+      let rest = rooms one two (caller_in k key) (omega (arith, less, a)) (omega (arith, less, b)) (omega (arith, less, within)) in
+      (ap (λ fs. frame_of_key k key ∷ fs) rest.0, ap (λ ns. key.scope ∷ ns) rest.1)
 
   -- a location has its frame, and then those of the one that it is inlined into
   pub chain_step : (i : ℕ) → suc i ≤ length k.locations → chain_at k (suc i)
-      ≡ frame_of_key k (location_key_at k (suc i)) ∷ chain_at k (location_key_at k (suc i)).caller
+      ≡ frame_of_key k (location_key_at k (suc i)) ∷ chain_at k (caller_in k (location_key_at k (suc i)))
   unfolding chain_at chain_within
   chain_step i within =
       let key : LocationKey = location_key_at k (suc i) in
-      let less : key.caller ≤ i = caller_below i within in
-      ap (λ fs. frame_of_key k key ∷ fs) (rooms i key.caller key.caller less (omega arith) (omega (arith, less, within))).0
+      let less : caller_in k key ≤ i = caller_below i within in
+      ap (λ fs. frame_of_key k key ∷ fs) (rooms i (caller_in k key) (caller_in k key) less (omega arith) (omega (arith, less, within))).0
 
-  pub callers_step : (i : ℕ) → suc i ≤ length k.locations → callers_of k (suc i) ≡ suc i ∷ callers_of k (location_key_at k (suc i)).caller
-  unfolding callers_of callers_within
-  callers_step i within =
+  pub scopes_step : (i : ℕ) → suc i ≤ length k.locations → scope_numbers_of k (suc i)
+      ≡ (location_key_at k (suc i)).scope ∷ scope_numbers_of k (caller_in k (location_key_at k (suc i)))
+  unfolding scope_numbers_of scope_numbers_within
+  scopes_step i within =
       let key : LocationKey = location_key_at k (suc i) in
-      let less : key.caller ≤ i = caller_below i within in
-      ap (λ ns. suc i ∷ ns) (rooms i key.caller key.caller less (omega arith) (omega (arith, less, within))).1
+      let less : caller_in k key ≤ i = caller_below i within in
+      ap (λ ns. key.scope ∷ ns) (rooms i (caller_in k key) (caller_in k key) less (omega arith) (omega (arith, less, within))).1
 
 pub chain_none : (k : KeptRecord) → chain_at k 0 ≡ []
 unfolding chain_at chain_within
 chain_none k = refl
 
-pub callers_none : (k : KeptRecord) → callers_of k 0 ≡ []
-unfolding callers_of callers_within
-callers_none k = refl
+pub scopes_none : (k : KeptRecord) → scope_numbers_of k 0 ≡ []
+unfolding scope_numbers_of scope_numbers_within
+scopes_none k = refl
 
--- ---- a text, a file, a location more
+-- ---- a text, a file, a scope, a location more
+
+pub grows_none : (k : KeptRecord) → Grows k k
+grows_none k = record {
+  texts = stays k.texts k.texts refl;
+  files = stays k.files k.files refl;
+  scopes = stays k.scopes k.scopes refl;
+  locations = stays k.locations k.locations refl;
+}
 
 module _ (k : KeptRecord) (kept : IsKept k) where
   pub text_kept : (new : List (List ℕ)) (x : List ℕ) (n : ℕ) → IsNumberedIn [] k.texts x n new → IsKept (record k { texts = new })
   text_kept new x n h =
-      let grows : Grows k (record k { texts = new }) =
-      record {
+      let grows : Grows k (record k { texts = new }) = record {
         texts = goes_on [] k.texts x n new h;
         files = stays k.files k.files refl;
-        locations =
-            stays k.locations k.locations refl;
+        scopes = stays k.scopes k.scopes refl;
+        locations = stays k.locations k.locations refl;
       } in
       record {
         texts = once_more [] k.texts x n new h kept.texts;
         files = kept.files;
+        scopes = kept.scopes;
         locations = kept.locations;
         each_file = λ m is. file_key_on k (record k { texts = new }) grows (file_key_at k m) (kept.each_file m is);
+        each_scope = λ m is. scope_key_on k (record k { texts = new }) grows (scope_key_at k m) (kept.each_scope m is);
         each_location = λ m is. location_key_on k (record k { texts = new }) grows m (location_key_at k m) (kept.each_location m is);
       }
 
@@ -251,40 +281,70 @@ module _ (k : KeptRecord) (kept : IsKept k) where
       → IsKept (record k { files = new })
   file_kept new key n h is_key =
       let other : FileKey = record { base = 0; directory = 0; name = 0 } in
-      let grows : Grows k (record k { files = new }) =
-      record {
+      let grows : Grows k (record k { files = new }) = record {
         texts = stays k.texts k.texts refl;
         files = goes_on other k.files key n new h;
-        locations =
-            stays k.locations k.locations refl;
+        scopes = stays k.scopes k.scopes refl;
+        locations = stays k.locations k.locations refl;
       } in
       record {
         texts = kept.texts;
         files = once_more other k.files key n new h kept.files;
+        scopes = kept.scopes;
         locations = kept.locations;
         each_file = each_more other k.files key n new (λ m f. IsFileKey (record k { files = new }) f) h
             (file_key_on k (record k { files = new }) grows key is_key)
             (λ m is. file_key_on k (record k { files = new }) grows (file_key_at k m) (kept.each_file m is));
+        each_scope = λ m is. scope_key_on k (record k { files = new }) grows (scope_key_at k m) (kept.each_scope m is);
         each_location = λ m is. location_key_on k (record k { files = new }) grows m (location_key_at k m) (kept.each_location m is);
       }
 
-  pub location_kept : (new : List LocationKey) (key : LocationKey) (n : ℕ)
-      → IsNumberedIn (record { name = 0; file = 0; line = 0; column = 0; caller = 0 }) k.locations key n new
-      → IsLocationKey k (suc (length k.locations)) key → IsKept (record k { locations = new })
-  location_kept new key n h is_key =
-      let other : LocationKey = record { name = 0; file = 0; line = 0; column = 0; caller = 0 } in
-      let grows : Grows k (record k { locations = new }) =
+  pub scope_grows : (new : List ScopeKey) (key : ScopeKey) (n : ℕ)
+      → IsNumberedIn (record { caller = 0; name = 0; file = 0 }) k.scopes key n new → Grows k (record k { scopes = new })
+  scope_grows new key n h =
       record {
         texts = stays k.texts k.texts refl;
         files = stays k.files k.files refl;
-        locations =
-            goes_on other k.locations key n new h;
+        scopes = goes_on (record { caller = 0; name = 0; file = 0 }) k.scopes key n new h;
+        locations = stays k.locations k.locations refl;
+      }
+
+  pub scope_kept : (new : List ScopeKey) (key : ScopeKey) (n : ℕ)
+      → IsNumberedIn (record { caller = 0; name = 0; file = 0 }) k.scopes key n new → IsScopeKey k key
+      → IsKept (record k { scopes = new })
+  scope_kept new key n h is_key =
+      let other : ScopeKey = record { caller = 0; name = 0; file = 0 } in
+      let grows : Grows k (record k { scopes = new }) = scope_grows new key n h in
+      record {
+        texts = kept.texts;
+        files = kept.files;
+        scopes = once_more other k.scopes key n new h kept.scopes;
+        locations = kept.locations;
+        each_file = λ m is. file_key_on k (record k { scopes = new }) grows (file_key_at k m) (kept.each_file m is);
+        each_scope = each_more other k.scopes key n new (λ m s. IsScopeKey (record k { scopes = new }) s) h
+            (scope_key_on k (record k { scopes = new }) grows key is_key)
+            (λ m is. scope_key_on k (record k { scopes = new }) grows (scope_key_at k m) (kept.each_scope m is));
+        each_location = λ m is. location_key_on k (record k { scopes = new }) grows m (location_key_at k m) (kept.each_location m is);
+      }
+
+  pub location_kept : (new : List LocationKey) (key : LocationKey) (n : ℕ)
+      → IsNumberedIn (record { scope = 0; line = 0; column = 0 }) k.locations key n new
+      → IsLocationKey k (suc (length k.locations)) key → IsKept (record k { locations = new })
+  location_kept new key n h is_key =
+      let other : LocationKey = record { scope = 0; line = 0; column = 0 } in
+      let grows : Grows k (record k { locations = new }) = record {
+        texts = stays k.texts k.texts refl;
+        files = stays k.files k.files refl;
+        scopes = stays k.scopes k.scopes refl;
+        locations = goes_on other k.locations key n new h;
       } in
       record {
         texts = kept.texts;
         files = kept.files;
+        scopes = kept.scopes;
         locations = once_more other k.locations key n new h kept.locations;
         each_file = λ m is. file_key_on k (record k { locations = new }) grows (file_key_at k m) (kept.each_file m is);
+        each_scope = λ m is. scope_key_on k (record k { locations = new }) grows (scope_key_at k m) (kept.each_scope m is);
         each_location = each_more other k.locations key n new (λ m l. IsLocationKey (record k { locations = new }) m l)
             h (location_key_on k (record k { locations = new }) grows (suc (length k.locations)) key is_key)
             (λ m is. location_key_on k (record k { locations = new }) grows m (location_key_at k m) (kept.each_location m is));
@@ -299,31 +359,47 @@ is_file k new key n path h is = record {
 }
 
 -- a location more
-module _ (k : KeptRecord) (kept : IsKept k) (key : LocationKey) (name : key.name ≤ length k.texts)
-    (file : key.file ≤ length k.files) (caller : key.caller ≤ length k.locations)
-    (new : List LocationKey) (n : ℕ) (h : IsNumberedIn (record { name = 0; file = 0; line = 0; column = 0; caller = 0 }) k.locations key n new) where
+module _ (k : KeptRecord) (kept : IsKept k) (key : LocationKey) (scope : IsNumber (length k.scopes) key.scope)
+    (new : List LocationKey) (n : ℕ) (h : IsNumberedIn (record { scope = 0; line = 0; column = 0 }) k.locations key n new) where
+  called : caller_in k key ≤ length k.locations
+  called = (kept.each_scope key.scope scope).caller
+
   pub located_kept : IsKept (record k { locations = new })
-  located_kept = location_kept k kept new key n h (record { name = name; file = file; caller = omega (arith, caller) })
+  located_kept = location_kept k kept new key n h (record { scope = scope; caller = omega (arith, called) })
 
   pub located_grows : Grows k (record k { locations = new })
   located_grows = record {
     texts = stays k.texts k.texts refl;
     files = stays k.files k.files refl;
-    locations = goes_on (record { name = 0; file = 0; line = 0; column = 0; caller = 0 }) k.locations key n new h;
+    scopes = stays k.scopes k.scopes refl;
+    locations = goes_on (record { scope = 0; line = 0; column = 0 }) k.locations key n new h;
   }
 
-  step_at : (m : ℕ) → n ≡ m → IsNumber (length new) m → chain_at (record k { locations = new }) m ≡ frame_of_key k key ∷ chain_at k key.caller
+  step_at : (m : ℕ) → n ≡ m → IsNumber (length new) m → chain_at (record k { locations = new }) m ≡ frame_of_key k key ∷ chain_at k (caller_in k key)
   step_at zero e is = absurd (omega (arith, is.some))
   step_at (suc i) e is =
       let here : location_key_at (record k { locations = new }) (suc i)
-      ≡ key = ap (numbered_or new (record { name = 0; file = 0; line = 0; column = 0; caller = 0 })) (sym e) ∙ h.is
+      ≡ key = ap (numbered_or new (record { scope = 0; line = 0; column = 0 })) (sym e) ∙ h.is
       in
       chain_step (record k { locations = new }) located_kept i is.within
-      ∙ ap (λ (q : LocationKey). frame_of_key k q ∷ chain_at (record k { locations = new }) q.caller) here
-      ∙ ap (λ fs. frame_of_key k key ∷ fs) (chain_same k (record k { locations = new }) located_grows kept key.caller caller)
+      ∙ ap (λ (q : LocationKey). frame_of_key k q ∷ chain_at (record k { locations = new }) (caller_in k q)) here
+      ∙ ap (λ fs. frame_of_key k key ∷ fs) (chain_same k (record k { locations = new }) located_grows kept (caller_in k key) called)
 
-  pub located : IsLocation (record k { locations = new }) n (frame_of_key k key ∷ chain_at k key.caller)
+  pub located : IsLocation (record k { locations = new }) n (frame_of_key k key ∷ chain_at k (caller_in k key))
   located = record { within = h.is_number.within; is = step_at n refl h.is_number }
+
+-- a location of a scope that has its number
+pub scoped : (old mid new : KeptRecord) → IsKept old → Grows old mid → (key : ScopeKey) → IsScopeKey old key → (scope line column number : ℕ)
+    → IsScope mid scope key
+    → IsLocation new number (frame_of_key mid (record { scope = scope; line = line; column = column })
+    ∷ chain_at mid (caller_in mid (record { scope = scope; line = line; column = column })))
+    → IsLocation new number (frame_in old key line column ∷ chain_at old key.caller)
+scoped old mid new kept grows key is_key scope line column number is at = record {
+  within = at.within;
+  is =
+      at.is ∙ ap (λ (s : ScopeKey). frame_in mid s line column ∷ chain_at mid s.caller) is.is
+      ∙ (λ i. frame_in_same old mid grows kept key line column is_key i ∷ chain_same old mid grows kept key.caller is_key.caller i);
+}
 
 -- ---- what numbers told of they still tell of
 

@@ -1,19 +1,23 @@
 -- How texts, keys of files and keys of locations compare, and their numbers.
 use Rattle.std.proofs.Common.{◌≡◌, ℕ, zero, suc, true, false, cond, List, [], ◌∷◌, ◌++◌, length, slice_get, Option, Some, None, refl, sym, ap, ◌∙◌, inl, inr}
-use Rattle.std.proofs.Common.{◌⊎◌, is_eq, nat_cmp, Ordering, map, subst, IfOk, OnErr, Result, Ok, Err, map-id}
+use Rattle.std.proofs.Common.{◌⊎◌, ◌<◌, is_eq, nat_cmp, Ordering, map, subst, IfOk, OnErr, Result, Ok, Err, map-id, MatchOption, arith, get_or}
 use Rattle.std.specs.Cmp.{Equal-is, IsTotalOrder, tied_then}
 use Rattle.std.specs.Cmp.Lexicographic.{slice_cmp}
 use Rattle.std.specs.Ordering.{ordering_then}
 use Rattle.std.specs.BTreeMap as tree_map
 use Rattle.std.proofs.lemmas.Bool.{and_parts, cases_Bool}
 use Rattle.std.proofs.lemmas.Cmp.{tied_itself, tied_back, nat_cmp_total, nat_list_cmp_total}
+use Rattle.std.proofs.lemmas.List.{get_or-map, length-map}
 use Rattle.std.proofs.lemmas.Map.Lookups.{exact_bytes, exact_pairs, exact_unsigned}
+use Rattle.std.proofs.lemmas.Option.{slice_get-get_or}
 pub use Rattle.std.proofs.lemmas.Result.{IfOk-weaker}
-use Rattle.table_source_frames_build.specs.Numbers.{AreNumbered, IsNumbered}
-use Rattle.table_source_frames_build.specs.Kept.{IsNumberedIn}
+use Rattle.table_source_frames_build.specs.Numbering.{IsNumber}
+use Rattle.table_source_frames_build.specs.Numbers.{AreNumbered, IsFoundIn, IsNumbered}
+use Rattle.table_source_frames_build.specs.Kept.{IsNumberedIn, IsText, KeptRecord, numbered_or, text_at}
 use Rattle.table_source_frames_build.specs.Marks.{mark_of}
 use Rattle.table_source_frames_build.specs.declared.keys.FileKey.{FileKey}
 use Rattle.table_source_frames_build.specs.declared.keys.LocationKey.{LocationKey}
+use Rattle.table_source_frames_build.specs.declared.keys.ScopeKey.{ScopeKey}
 use Rattle.table_source_frames_build.specs.declared.keys.TextKey.{TextKey}
 use Rattle.table_source_frames_build.proofs.KeptLemmas.{told_by}
 
@@ -56,6 +60,12 @@ module _ {K : Type 0} (cmp : K → K → Ordering) (o : IsTotalOrder cmp) where
         cc gone
     | inr f ↦ f
   ]
+
+  -- what is found of a key
+  pub found_by : (map : tree_map.BTreeMap K ℕ) (keys : List K) (key : K) (found : Option ℕ) → AreNumbered cmp map keys
+      → found ≡ tree_map.get cmp map key → IsFoundIn cmp keys key found
+  found_by map keys key None are is = absent map keys key are (sym is)
+  found_by map keys key (Some number) are is = are.found key number (sym is)
 
   -- a key more
   pub numbered_more : (old new : tree_map.BTreeMap K ℕ) (keys next : List K) (key : K) (number : ℕ)
@@ -111,6 +121,36 @@ pub text_told : (old : List TextKey) (key : TextKey) (n : ℕ) (new : List TextK
     → IsNumberedIn [] (map (λ (t : TextKey). t.text.now) old) key.text.now n (map (λ (t : TextKey). t.text.now) new)
 text_told old key n new h = told_by text_cmp (λ (t : TextKey). t.text.now) text_exact text_same [] old key n new h
 
+-- a text that is found, or is none of them
+found_among : (keys : List TextKey) (key : TextKey) (found : Option ℕ) → IsFoundIn text_cmp keys key found → MatchOption found
+    ((n : ℕ) → IsNumber (length (map (λ (t : TextKey). t.text.now) keys)) n
+    → numbered_or (map (λ (t : TextKey). t.text.now) keys) [] n ≡ key.text.now → ⊥)
+    (λ number. IsNumber (length (map (λ (t : TextKey). t.text.now) keys)) number
+    × (numbered_or (map (λ (t : TextKey). t.text.now) keys) [] number ≡ key.text.now))
+found_among keys key (Some number) there =
+    let told = text_told keys key number keys (record { there = there; kept = inl refl }) in (told.is_number, told.is)
+found_among keys key None none = other
+  where
+    other : (n : ℕ) → IsNumber (length (map (λ (t : TextKey). t.text.now) keys)) n
+        → numbered_or (map (λ (t : TextKey). t.text.now) keys) [] n ≡ key.text.now → ⊥
+    other zero number e = omega (arith, number.some)
+    other (suc i) number e =
+        let within : i < length keys = omega (arith, number.within, length-map keys (λ (t : TextKey). t.text.now)) in
+        let alike : key.text.now ≡ (get_or keys i key).text.now = sym e ∙ get_or-map (λ (t : TextKey). t.text.now) keys i key [] within in
+        cc (text_same key (get_or keys i key) alike, none i (get_or keys i key) (slice_get-get_or keys i key within))
+
+pub text_found : (k : KeptRecord) (keys : List TextKey) (key : TextKey) (text : List ℕ) (found : Option ℕ)
+    → k.texts ≡ map (λ (t : TextKey). t.text.now) keys → key.text.now ≡ text → IsFoundIn text_cmp keys key found
+    → MatchOption found ((n : ℕ) → IsNumber (length k.texts) n → text_at k n ≡ text → ⊥) (λ number. IsText k number text)
+text_found k keys key text (Some number) same is h =
+    let told = found_among keys key (Some number) h in
+    record {
+      is_number = subst (λ l. IsNumber (length l) number) (sym same) told.0;
+      is = ap (λ l. numbered_or l [] number) same ∙ told.1 ∙ is;
+    }
+text_found k keys key text None same is h = λ n number e.
+    found_among keys key None h n (subst (λ l. IsNumber (length l) n) same number) (sym (ap (λ l. numbered_or l [] n) same) ∙ e ∙ sym is)
+
 -- keys of files
 abbrev pub file_cmp : FileKey → FileKey → Ordering
 file_cmp a b = ordering_then (nat_cmp a.base b.base) (ordering_then (nat_cmp a.directory b.directory) (nat_cmp a.name b.name))
@@ -130,27 +170,44 @@ pub file_told : (old : List FileKey) (key : FileKey) (n : ℕ) (new : List FileK
 file_told old key n new h =
     simp map-id at (told_by file_cmp (λ (f : FileKey). f) file_exact file_same (record { base = 0; directory = 0; name = 0 }) old key n new h)
 
+-- keys of scopes
+abbrev pub scope_cmp : ScopeKey → ScopeKey → Ordering
+scope_cmp a b = ordering_then (nat_cmp a.caller b.caller) (ordering_then (nat_cmp a.name b.name) (nat_cmp a.file b.file))
+
+scope_exact : (a b : ScopeKey) → is_eq (scope_cmp a b) ≡ true → a ≡ b
+scope_exact a b e =
+    let both = exact_pairs nat_cmp (λ (x y : ℕ × ℕ). ordering_then (nat_cmp x.0 y.0) (nat_cmp x.1 y.1)) exact_unsigned
+    (exact_pairs nat_cmp nat_cmp exact_unsigned exact_unsigned) (a.caller, (a.name, a.file))
+    (b.caller, (b.name, b.file)) ((Equal-is (scope_cmp a b)).0 e) in
+    λ i. record { caller = (both i).0; name = (both i).1.0; file = (both i).1.1 }
+
+scope_same : (a b : ScopeKey) → a ≡ b → is_eq (scope_cmp a b) ≡ true
+scope_same a b e = subst (λ (c : ScopeKey). is_eq (scope_cmp a c) ≡ true) e (simp (tied_itself nat_cmp_total))
+
+pub scope_told : (old : List ScopeKey) (key : ScopeKey) (n : ℕ) (new : List ScopeKey) → IsNumbered scope_cmp old key n new
+    → IsNumberedIn (record { caller = 0; name = 0; file = 0 }) old key n new
+scope_told old key n new h =
+    simp map-id at (told_by scope_cmp (λ (s : ScopeKey). s) scope_exact scope_same (record { caller = 0; name = 0; file = 0 }) old key n new h)
+
 -- keys of locations
 abbrev pub location_cmp : LocationKey → LocationKey → Ordering
-location_cmp a b =
-    ordering_then (nat_cmp a.caller b.caller)
-    (ordering_then (nat_cmp a.name b.name) (ordering_then (nat_cmp a.line b.line) (ordering_then (nat_cmp a.column b.column) (nat_cmp a.file b.file))))
+location_cmp a b = ordering_then (nat_cmp a.scope b.scope) (ordering_then (nat_cmp a.line b.line) (nat_cmp a.column b.column))
 
 location_exact : (a b : LocationKey) → is_eq (location_cmp a b) ≡ true → a ≡ b
 location_exact a b e =
-    let both = exact_pairs nat_cmp _ exact_unsigned (exact_pairs nat_cmp _ exact_unsigned (exact_pairs nat_cmp _ exact_unsigned
-    (exact_pairs nat_cmp nat_cmp exact_unsigned exact_unsigned))) (a.caller, (a.name, (a.line, (a.column, a.file))))
-    (b.caller, (b.name, (b.line, (b.column, b.file)))) ((Equal-is (location_cmp a b)).0 e) in
-    λ i. record { caller = (both i).0; name = (both i).1.0; line = (both i).1.1.0; column = (both i).1.1.1.0; file = (both i).1.1.1.1 }
+    let both = exact_pairs nat_cmp (λ (x y : ℕ × ℕ). ordering_then (nat_cmp x.0 y.0) (nat_cmp x.1 y.1)) exact_unsigned
+    (exact_pairs nat_cmp nat_cmp exact_unsigned exact_unsigned) (a.scope, (a.line, a.column))
+    (b.scope, (b.line, b.column)) ((Equal-is (location_cmp a b)).0 e) in
+    λ i. record { scope = (both i).0; line = (both i).1.0; column = (both i).1.1 }
 
 location_same : (a b : LocationKey) → a ≡ b → is_eq (location_cmp a b) ≡ true
 location_same a b e = subst (λ (c : LocationKey). is_eq (location_cmp a c) ≡ true) e (simp (tied_itself nat_cmp_total))
 
 pub location_told : (old : List LocationKey) (key : LocationKey) (n : ℕ) (new : List LocationKey) → IsNumbered location_cmp old key n new
-    → IsNumberedIn (record { name = 0; file = 0; line = 0; column = 0; caller = 0 }) old key n new
+    → IsNumberedIn (record { scope = 0; line = 0; column = 0 }) old key n new
 location_told old key n new h =
     simp map-id at (told_by location_cmp (λ (l : LocationKey). l) location_exact location_same
-    (record { name = 0; file = 0; line = 0; column = 0; caller = 0 }) old key n new h)
+    (record { scope = 0; line = 0; column = 0 }) old key n new h)
 
 -- ---- by what a call gave
 

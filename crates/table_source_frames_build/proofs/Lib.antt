@@ -1,8 +1,14 @@
 mod KeptLemmas
 mod KeyLemmas
 mod FirstUsesLemmas
+mod ChainLemmas
+mod PlaceLemmas
+mod NoteLemmas
+mod TextLemmas
+mod GroupLemmas
 mod LoopLemmas
 mod PartLemmas
+mod WithinLemmas
 mod StoreLemmas
 mod LeastLemmas
 mod TakerLemmas

@@ -1,31 +1,33 @@
 -- Steps of loops over numbers.
 use Rattle.std.proofs.Common.{◌≡◌, ◌≢◌, ℕ, zero, suc, ◌+◌, ◌-◌, ◌<◌, ◌≤◌, nat_eq, true, false, cond, List, [], ◌∷◌, ◌++◌, map, length}
 use Rattle.std.proofs.Common.{flat_map, reverse, get_or, take, drop, slice_get, Some, refl, sym, ap, ◌∙◌, arith, subst, append_assoc, All}
-use Rattle.std.proofs.Common.{option_map, not}
+use Rattle.std.proofs.Common.{option_map}
 use Rattle.std.specs.Int.{w32, w64, to_be_bytes}
 use Rattle.std.specs.List.{concat}
-use Rattle.std.proofs.lemmas.Bool.{eq-eqb, ne_eqb, not-false, not-true}
+use Rattle.std.proofs.lemmas.Bool.{eq-eqb, ne_eqb}
 use Rattle.std.proofs.lemmas.List.{append-nil, at_drop_more, drop_all, flat_map_more, nil_from_length, reverse-append, take_more, drop_more, length-append}
-use Rattle.std.proofs.lemmas.List.{take_all, map_more, at_drop_all, get_or-map, length-map}
+use Rattle.std.proofs.lemmas.List.{take_all, map_more}
 use Rattle.std.proofs.lemmas.List.Elements.{All-from_get_or}
 use Rattle.std.proofs.lemmas.List.Folds.{concat-append}
 use Rattle.std.proofs.lemmas.Option.{get_or_from_slice_get, slice_get-map}
 pub use Rattle.std.proofs.lemmas.Result.{on_ok_weaker}
 use Rattle.table_source_frames.specs.Numbering.{numbered_after, numbered_with, number_in}
 use Rattle.table_source_frames.proofs.NumberingLemmas.{after-append}
-use Rattle.table_source_frames.specs.LineText.{run_bytes, text_rows}
-use Rattle.table_source_frames.specs.Runs.{RunRecord, runs_after, go_on, upper_half}
-use Rattle.table_source_frames_build.specs.Kept.{KeptRecord, numbered_or, location_key_at, callers_of, IsKept, Grows}
+use Rattle.table_checked_pages.specs.Groups.{bytes_of, group_rows}
+use Rattle.table_source_frames.specs.LineText.{text_rows}
+use Rattle.table_source_frames_build.specs.Kept.{KeptRecord, numbered_or, caller_in, location_key_at, scope_key_at, scope_numbers_of, IsKept}
 use Rattle.table_source_frames_build.specs.Numbering.{IsNumber}
-use Rattle.table_source_frames_build.specs.StepViews.{changed_after, step_starts}
-use Rattle.table_source_frames_build.specs.PartBytes.{file_row, file_rows, location_row, location_rows, step_row, texts_at}
-use Rattle.table_source_frames_build.specs.WholeText.{head_of, text_of_parts}
+use Rattle.table_source_frames_build.specs.StepViews.{changed_after}
+use Rattle.table_source_frames_build.specs.PartBytes.{file_row, file_rows, groups_by, scope_row, scope_rows, text_numbers, texts_at}
+use Rattle.table_source_frames_build.specs.WholeText.{head_of, text_by, text_of_parts}
+use Rattle.table_source_frames_build.specs.declared.parts.Parts.{Parts}
 use Rattle.table_source_frames_build.specs.declared.keys.LocationKey.{LocationKey}
+use Rattle.table_source_frames_build.specs.declared.keys.ScopeKey.{ScopeKey}
 use Rattle.table_source_frames_build.specs.declared.step.Step.{Step}
 use Rattle.table_source_frames_build.specs.declared.keys.FileKey.{FileKey}
-use Rattle.table_source_frames_build.proofs.KeptLemmas.{callers_none, callers_step, stays}
+use Rattle.table_source_frames_build.proofs.KeptLemmas.{scopes_none, scopes_step}
 use Rattle.table_source_frames_build.proofs.FirstUsesLemmas.{at_each, exact_numbers}
-use Rattle.table_source_frames_build.proofs.PartLemmas.{callers_are}
+use Rattle.table_source_frames_build.proofs.ChainLemmas.{scopes_are}
 
 -- nothing more
 pub after_none : (order : List ℕ) → order ≡ numbered_after nat_eq order []
@@ -46,11 +48,12 @@ pub after_both : (order one two xs ys : List ℕ) → one ≡ numbered_after nat
 after_both order one two xs ys a b = b ∙ ap (λ l. numbered_after nat_eq l ys) a ∙ sym (after-append nat_eq exact_numbers order xs ys)
 
 -- three more
-pub after_three : (order one two : List ℕ) (x y z : ℕ) → one ≡ numbered_with nat_eq order x → two
-    ≡ numbered_with nat_eq one y → numbered_after nat_eq order (x ∷ y ∷ z ∷ []) ≡ numbered_with nat_eq two z
-unfolding numbered_after
-after_three order one two x y z a b =
-    ap (λ l. numbered_with nat_eq (numbered_with nat_eq l y) z) (sym a) ∙ ap (λ l. numbered_with nat_eq l z) (sym b)
+pub after_three : (f : ℕ → List ℕ) (order one two three : List ℕ) (x y z : ℕ) → one ≡ numbered_after nat_eq order (f x)
+    → two ≡ numbered_after nat_eq one (f y) → three ≡ numbered_after nat_eq two (f z)
+    → three ≡ numbered_after nat_eq order (flat_map f (x ∷ y ∷ z ∷ []))
+after_three f order one two three x y z a b c =
+    after_both order one three (f x) (f y ++ f z) a (after_both one two three (f y) (f z) b c)
+    ∙ ap (λ l. numbered_after nat_eq order (f x ++ (f y ++ l))) (sym (append-nil (f z)))
 
 -- the last one of some
 pub after_last : (order next numbers rest : List ℕ) (n : ℕ) → numbers ≡ rest ++ n ∷ [] → next
@@ -65,32 +68,35 @@ pub after_end : (order numbers whole : List ℕ) → length numbers ≡ 0 → nu
 unfolding numbered_after
 after_end order numbers whole none e = sym (ap (λ l. numbered_after nat_eq order (reverse l)) (nil_from_length numbers none)) ∙ e
 
--- ---- callers
+-- ---- scopes
 
-pub pushed_on : (k : KeptRecord) (kept : IsKept k) (n : ℕ) (key : LocationKey) (old now whole : List ℕ) → n ≢ 0
-    → n ≤ length k.locations → key ≡ location_key_at k n → now ≡ old ++ n ∷ [] → old ++ callers_of k n ≡ whole
-    → (key.caller ≤ length k.locations) × (now ++ callers_of k key.caller ≡ whole)
-pushed_on k kept zero key old now whole some within is push e = absurd (some refl)
-pushed_on k kept (suc i) key old now whole some within is push e =
-    let caller : key.caller ≡ (location_key_at k (suc i)).caller = ap (λ (q : LocationKey). q.caller) is in
+pub pushed_on : (k : KeptRecord) (kept : IsKept k) (n : ℕ) (location : LocationKey) (key : ScopeKey) (old now whole : List ℕ) → n ≢ 0
+    → n ≤ length k.locations → location ≡ location_key_at k n → key ≡ scope_key_at k location.scope → now ≡ old ++ location.scope ∷ []
+    → old ++ scope_numbers_of k n ≡ whole → (key.caller < n) × (key.caller ≤ length k.locations) × (now ++ scope_numbers_of k key.caller ≡ whole)
+pushed_on k kept zero location key old now whole some within is is_key push e = absurd (some refl)
+pushed_on k kept (suc i) location key old now whole some within is is_key push e =
+    let caller : key.caller ≡ caller_in k (location_key_at k (suc i)) = ap (λ (q : ScopeKey). q.caller) is_key ∙ ap (caller_in k) is in
     let below = (kept.each_location (suc i) (record { some = omega arith; within = within })).caller in (
+      omega (arith, caller, below),
       omega (arith, caller, below, within),
-      (λ j. push j ++ callers_of k (caller j)) ∙ append_assoc old (suc i ∷ []) (callers_of k (location_key_at k (suc i)).caller)
-          ∙ ap (λ l. old ++ l) (sym (callers_step k kept i within)) ∙ e,
+      (λ j. push j ++ scope_numbers_of k (caller j))
+          ∙ ap (λ (q : LocationKey). (old ++ q.scope ∷ []) ++ scope_numbers_of k (caller_in k (location_key_at k (suc i)))) is
+          ∙ append_assoc old ((location_key_at k (suc i)).scope ∷ []) (scope_numbers_of k (caller_in k (location_key_at k (suc i))))
+          ∙ ap (λ l. old ++ l) (sym (scopes_step k kept i within)) ∙ e,
     )
 
-pub pushed_end : (k : KeptRecord) (n : ℕ) (old whole : List ℕ) → n ≡ 0 → old ++ callers_of k n ≡ whole → old ≡ whole
+pub pushed_end : (k : KeptRecord) (n : ℕ) (old whole : List ℕ) → n ≡ 0 → old ++ scope_numbers_of k n ≡ whole → old ≡ whole
 pushed_end k n old whole none e =
-    sym (append-nil old) ∙ ap (λ l. old ++ l) (sym (ap (callers_of k) none ∙ callers_none k)) ∙ e
+    sym (append-nil old) ∙ ap (λ l. old ++ l) (sym (ap (scope_numbers_of k) none ∙ scopes_none k)) ∙ e
 
-pub callers_all : (k : KeptRecord) (kept : IsKept k) (n count : ℕ) (before numbers : List ℕ) → n ≤ length k.locations
-    → before ≡ [] → numbers ≡ before ++ callers_of k n → count ≡ length k.locations → All (IsNumber count) numbers
-callers_all k kept n count before numbers within none is same =
-    let here : numbers ≡ callers_of k n = is ∙ ap (λ l. l ++ callers_of k n) none in
+pub scopes_all : (k : KeptRecord) (kept : IsKept k) (n count : ℕ) (before numbers : List ℕ) → n ≤ length k.locations
+    → before ≡ [] → numbers ≡ before ++ scope_numbers_of k n → count ≡ length k.scopes → All (IsNumber count) numbers
+scopes_all k kept n count before numbers within none is same =
+    let here : numbers ≡ scope_numbers_of k n = is ∙ ap (λ l. l ++ scope_numbers_of k n) none in
     subst (λ (l : List ℕ). All (IsNumber count) l) (sym here)
-    (All-from_get_or (IsNumber count) (callers_of k n) 0
-    (λ i less. subst (λ c. IsNumber c (get_or (callers_of k n) i 0)) (sym same)
-    (at_each (IsNumber (length k.locations)) (callers_of k n) (callers_are k kept n within) i less)))
+    (All-from_get_or (IsNumber count) (scope_numbers_of k n) 0
+    (λ i less. subst (λ c. IsNumber c (get_or (scope_numbers_of k n) i 0)) (sym same)
+    (at_each (IsNumber (length k.scopes)) (scope_numbers_of k n) (scopes_are k kept n within) i less)))
 
 -- ---- what is under a number
 
@@ -99,11 +105,6 @@ told_at f keys d zero x some e = absurd (omega arith)
 told_at f keys d (suc i) x some e =
     let here : slice_get keys i ≡ Some x = subst (λ j. slice_get keys j ≡ Some x) (omega arith) e in
     sym (get_or_from_slice_get (map f keys) i (f x) d (slice_get-map f keys i ∙ ap (option_map f) here))
-
--- ---- frames
-
-pub grows_none : (k : KeptRecord) → Grows k k
-grows_none k = record { texts = stays k.texts k.texts refl; files = stays k.files k.files refl; locations = stays k.locations k.locations refl }
 
 -- ---- changes
 
@@ -205,42 +206,43 @@ pub rows_end : {X : Type 0} (f : X → List ℕ) (xs : List X) (i : ℕ) (old no
     ++ flat_map f (take i xs) → now ≡ old ++ flat_map f xs
 rows_end f xs i old now past e = e ∙ ap (λ l. old ++ flat_map f l) (take_all i xs past)
 
--- the rows of a file and of a location
-pub file_pushed : (texts : List ℕ) (key of : FileKey) (a b c : ℕ) (old one two three : List ℕ) → key ≡ of → a
-    ≡ number_in nat_eq texts key.base → b ≡ number_in nat_eq texts key.directory → c ≡ number_in nat_eq texts key.name
-    → one ≡ old ++ to_be_bytes w32 a → two ≡ one ++ to_be_bytes w32 b → three ≡ two ++ to_be_bytes w32 c → three ≡ old ++ file_row texts of
+-- the rows of a file and of a scope
+pub file_pushed : (text : ℕ → ℕ) (key of : FileKey) (a b c : ℕ) (old one two three : List ℕ) → key ≡ of → a
+    ≡ text key.base → b ≡ text key.directory → c ≡ text key.name
+    → one ≡ old ++ to_be_bytes w32 a → two ≡ one ++ to_be_bytes w32 b → three ≡ two ++ to_be_bytes w32 c → three ≡ old ++ file_row text of
 unfolding file_row
-file_pushed texts key of a b c old one two three is p q r x y z = simp (z, y, x, p, q, r, is, append_assoc)
+file_pushed text key of a b c old one two three is p q r x y z = simp (z, y, x, p, q, r, is, append_assoc)
 
-pub location_pushed : (locations files texts : List ℕ) (key of : LocationKey) (a b c : ℕ)
-    (old one two three four five : List ℕ) → key ≡ of → a ≡ number_in nat_eq texts key.name → b
-    ≡ number_in nat_eq files key.file → c ≡ number_in nat_eq locations key.caller
-    → one ≡ old ++ to_be_bytes w32 a → two ≡ one ++ to_be_bytes w32 b → three ≡ two ++ to_be_bytes w32 key.line → four
-    ≡ three ++ to_be_bytes w32 key.column → five ≡ four ++ to_be_bytes w32 c
-    → five ≡ old ++ location_row locations files texts of
-unfolding location_row
-location_pushed locations files texts key of a b c old one two three four five is p q r v w x y z = simp (z, y, x, w, v, p, q, r, is, append_assoc)
+pub scope_pushed : (k : KeptRecord) (scopes files : List ℕ) (text : ℕ → ℕ) (key of : ScopeKey) (call : LocationKey) (a b c : ℕ)
+    (old one two three four five : List ℕ) → key ≡ of → call ≡ location_key_at k key.caller → a ≡ text key.name → b
+    ≡ number_in nat_eq files key.file → c ≡ number_in nat_eq scopes call.scope
+    → one ≡ old ++ to_be_bytes w32 a → two ≡ one ++ to_be_bytes w32 b → three ≡ two ++ to_be_bytes w32 call.line → four
+    ≡ three ++ to_be_bytes w32 call.column → five ≡ four ++ to_be_bytes w32 c
+    → five ≡ old ++ scope_row k scopes files text of
+unfolding scope_row
+scope_pushed k scopes files text key of call a b c old one two three four five is at p q r v w x y z = simp (z, y, x, w, v, p, q, r, at, is, append_assoc)
 
 -- the head of a table
-pub head_pushed : (runs steps locations files texts bytes : ℕ) (old a b c d e f h : List ℕ) → a ≡ old
-    ++ to_be_bytes w64 1 → b ≡ a ++ to_be_bytes w64 runs → c ≡ b ++ to_be_bytes w64 steps → d ≡ c
-    ++ to_be_bytes w64 locations → e ≡ d ++ to_be_bytes w64 files → f ≡ e ++ to_be_bytes w64 texts → h ≡ f
+pub head_pushed : (steps step_bytes scopes files texts bytes : ℕ) (old a b c d e f h : List ℕ) → a ≡ old
+    ++ to_be_bytes w64 1 → b ≡ a ++ to_be_bytes w64 steps → c ≡ b ++ to_be_bytes w64 step_bytes → d ≡ c
+    ++ to_be_bytes w64 scopes → e ≡ d ++ to_be_bytes w64 files → f ≡ e ++ to_be_bytes w64 texts → h ≡ f
     ++ to_be_bytes w64 bytes
-    → h ≡ old ++ head_of runs steps locations files texts bytes
+    → h ≡ old ++ head_of steps step_bytes scopes files texts bytes
 unfolding head_of
-head_pushed runs steps locations files texts bytes old a b c d e f h p q r s t u v = simp (v, u, t, s, r, q, p, append_assoc)
+head_pushed steps step_bytes scopes files texts bytes old a b c d e f h p q r s t u v = simp (v, u, t, s, r, q, p, append_assoc)
 
 -- all of a table
-pub all_pushed : (k : KeptRecord) (steps : List Step) (locations files texts : List ℕ) (len : ℕ)
-    (old a b c d e f h : List ℕ) → len ≡ length (concat (texts_at k texts)) → old ≡ []
-    → a ≡ old ++ head_of (length (runs_after 0 (step_starts steps))) (length steps) (length locations) (length files)
-    (length texts) len → b ≡ a ++ flat_map run_bytes (runs_after 0 (step_starts steps)) → c ≡ b
-    ++ flat_map (step_row locations) steps
-    → d ≡ c ++ location_rows k locations files texts locations → e ≡ d ++ file_rows k texts files → f ≡ e
-    ++ text_rows 0 (texts_at k texts) → h ≡ f ++ concat (texts_at k texts) → h
-    ≡ text_of_parts k steps locations files texts
+pub all_pushed : (k : KeptRecord) (steps : List Step) (parts : Parts) (len : ℕ) (groups step_bytes old a b c d e f h : List ℕ)
+    → len ≡ length (concat (texts_at k parts.texts.uses.order.items))
+    → groups ≡ group_rows 0 (groups_by k parts.scopes.order.items steps) → step_bytes ≡ bytes_of (groups_by k parts.scopes.order.items steps)
+    → old ≡ [] → a ≡ old ++ head_of (length steps) (length step_bytes) (length parts.scopes.order.items) (length parts.files.order.items)
+    (length parts.texts.uses.order.items) len → b ≡ a ++ groups → c ≡ b ++ step_bytes
+    → d ≡ c ++ scope_rows k parts.scopes.order.items parts.files.order.items (text_numbers parts) parts.scopes.order.items
+    → e ≡ d ++ file_rows k (text_numbers parts) parts.files.order.items → f ≡ e ++ text_rows 0 (texts_at k parts.texts.uses.order.items)
+    → h ≡ f ++ concat (texts_at k parts.texts.uses.order.items) → h ≡ text_by k steps parts
 unfolding text_of_parts
-all_pushed k steps locations files texts len old a b c d e f h is none p q r s t u v = simp (v, u, t, s, r, q, p, none, is, append_assoc)
+all_pushed k steps parts len groups step_bytes old a b c d e f h is rows bytes none p q r s t u v =
+    simp (v, u, t, s, r, q, p, none, is, rows, bytes, append_assoc)
 
 -- texts that are too long
 pub too_much : (f : ℕ → List ℕ) (xs : List ℕ) (i left most len : ℕ) → i < length xs
@@ -262,84 +264,3 @@ pub left_more : (f : ℕ → List ℕ) (xs : List ℕ) (i left most len next : �
     → next + length (concat (map f (take (i + 1) xs))) ≡ most
 left_more f xs i left most len next less so_far is e =
     omega (arith, so_far, is, e, ap length (concat_more f xs i less), length-append (concat (map f (take i xs))) (f (get_or xs i 0)))
-
--- ---- the runs of steps, one step after another
-
-pub starts_long : (steps : List Step) → length (step_starts steps) ≡ length steps
-starts_long steps = length-map steps (λ (s : Step). s.start)
-
-pub start_at : (steps : List Step) (i : ℕ) (d : Step) → i < length steps → get_or (step_starts steps) i 0 ≡ (get_or steps i d).start
-start_at steps i d l = get_or-map (λ (s : Step). s.start) steps i d 0 l
-
--- whether the starts from an index on go on
-go_on_at : (starts : List ℕ) (i upper : ℕ) → i < length starts → go_on upper (drop i starts) ≡ nat_eq (upper_half (get_or starts i 0)) upper
-unfolding go_on
-go_on_at starts i upper l = at_drop_more (go_on upper) starts i 0 l
-
-pub ends_some : (steps : List Step) (i : ℕ) (next d : Step) (a b : ℕ) → i + 1 < length steps → next
-    ≡ get_or steps (i + 1) next → a ≡ upper_half next.start → b ≡ upper_half (get_or steps i d).start
-    → not (nat_eq a b) ≡ not (go_on (upper_half (get_or (step_starts steps) i 0)) (drop (i + 1) (step_starts steps)))
-ends_some steps i next d a b within is one other =
-    let there : get_or (step_starts steps) (i + 1) 0 ≡ next.start = start_at steps (i + 1) next within ∙ ap (λ (s : Step). s.start) (sym is) in
-    let x : a ≡ upper_half (get_or (step_starts steps) (i + 1) 0) = one ∙ ap upper_half (sym there) in
-    let y : b ≡ upper_half (get_or (step_starts steps) i 0) = other ∙ ap upper_half (sym (start_at steps i d (omega (arith, within)))) in
-    (λ j. not (nat_eq (x j) (y j))) ∙ ap not (sym (go_on_at (step_starts steps) (i + 1)
-    (upper_half (get_or (step_starts steps) i 0)) (omega (arith, within, starts_long steps))))
-
--- the runs from an index on, after the step there
-pub runs_join : (starts : List ℕ) (i : ℕ) → i < length starts
-    → not (go_on (upper_half (get_or starts i 0)) (drop (i + 1) starts)) ≡ false → runs_after i (drop i starts)
-    ≡ runs_after (i + 1) (drop (i + 1) starts)
-unfolding runs_after
-runs_join starts i l e =
-    let rest : List RunRecord = runs_after (i + 1) (drop (i + 1) starts) in
-    at_drop_more (runs_after i) starts i 0 l ∙ ap (λ b. cond b rest
-    (record { upper = upper_half (get_or starts i 0); steps = i + 1 } ∷ rest))
-    (not-false (go_on (upper_half (get_or starts i 0)) (drop (i + 1) starts)) e)
-
-pub runs_end : (starts : List ℕ) (i : ℕ) → i < length starts → not (go_on (upper_half (get_or starts i 0)) (drop (i + 1) starts)) ≡ true
-    → runs_after i (drop i starts) ≡ record { upper = upper_half (get_or starts i 0); steps = i + 1 } ∷ runs_after (i + 1) (drop (i + 1) starts)
-unfolding runs_after
-runs_end starts i l e =
-    let rest : List RunRecord = runs_after (i + 1) (drop (i + 1) starts) in
-    at_drop_more (runs_after i) starts i 0 l ∙ ap (λ b. cond b rest
-    (record { upper = upper_half (get_or starts i 0); steps = i + 1 } ∷ rest))
-    (not-true (go_on (upper_half (get_or starts i 0)) (drop (i + 1) starts)) e)
-
-pub runs_none : (starts : List ℕ) (i : ℕ) → length starts ≤ i → runs_after i (drop i starts) ≡ []
-unfolding runs_after
-runs_none starts i past = at_drop_all (runs_after i) starts i past
-
--- ---- counted
-
-pub counted_end : (starts : List ℕ) (i count whole : ℕ) → i < length starts
-    → not (go_on (upper_half (get_or starts i 0)) (drop (i + 1) starts)) ≡ true
-    → count + length (runs_after i (drop i starts)) ≡ whole
-    → count + 1 + length (runs_after (i + 1) (drop (i + 1) starts)) ≡ whole
-counted_end starts i count whole l e is = omega (arith, is, ap length (runs_end starts i l e))
-
-pub counted_join : (starts : List ℕ) (i count whole : ℕ) → i < length starts
-    → not (go_on (upper_half (get_or starts i 0)) (drop (i + 1) starts)) ≡ false
-    → count + length (runs_after i (drop i starts)) ≡ whole
-    → count + length (runs_after (i + 1) (drop (i + 1) starts)) ≡ whole
-counted_join starts i count whole l e is = omega (arith, is, ap length (runs_join starts i l e))
-
--- ---- written
-
-pub run_pushed : (starts : List ℕ) (i a b : ℕ) (old one two : List ℕ) → i < length starts
-    → not (go_on (upper_half (get_or starts i 0)) (drop (i + 1) starts)) ≡ true → a ≡ upper_half (get_or starts i 0) → b
-    ≡ i + 1
-    → one ≡ old ++ to_be_bytes w32 a → two ≡ one ++ to_be_bytes w32 b → two
-    ++ flat_map run_bytes (runs_after (i + 1) (drop (i + 1) starts)) ≡ old
-    ++ flat_map run_bytes (runs_after i (drop i starts))
-unfolding run_bytes
-run_pushed starts i a b old one two l e upper count p q =
-    let rest : List ℕ = flat_map run_bytes (runs_after (i + 1) (drop (i + 1) starts)) in
-    let high : List ℕ = to_be_bytes w32 (upper_half (get_or starts i 0)) in
-    let low : List ℕ = to_be_bytes w32 (i + 1) in
-    ap (λ l. l ++ rest) (two_parts old one two high low (p ∙ ap (λ n. old ++ to_be_bytes w32 n) upper) (q ∙ ap (λ n. one ++ to_be_bytes w32 n) count))
-    ∙ append_assoc old (high ++ low) rest ∙ ap (λ rs. old ++ flat_map run_bytes rs) (sym (runs_end starts i l e))
-
-pub runs_pushed : (starts : List ℕ) (i : ℕ) (now whole : List ℕ) → length starts ≤ i → now
-    ++ flat_map run_bytes (runs_after i (drop i starts)) ≡ whole → now ≡ whole
-runs_pushed starts i now whole past e = sym (append-nil now) ∙ ap (λ rs. now ++ flat_map run_bytes rs) (sym (runs_none starts i past)) ∙ e

@@ -1,147 +1,131 @@
 -- The parts of a table and their bytes, by numbers and as they are defined.
-use Rattle.std.proofs.Common.{◌≡◌, ℕ, zero, suc, ◌≤◌, List, [], ◌∷◌, ◌++◌, map, length, reverse, refl, sym, ap, ◌∙◌, arith, subst, nat_eq, flat_map, Option}
-use Rattle.std.proofs.Common.{◌<◌, ◌^◌, min, All}
+use Rattle.std.proofs.Common.{◌≡◌, ℕ, zero, suc, ◌+◌, ◌≤◌, List, [], ◌∷◌, ◌++◌, drop, map, length, reverse, refl, sym, ap, ◌∙◌, arith, subst, nat_eq}
+use Rattle.std.proofs.Common.{flat_map, Option, append_assoc}
+use Rattle.std.proofs.Common.{Some, ◌<◌, ◌^◌, min, get_or, inl, inr}
+use Rattle.std.proofs.lemmas.Bool.{cases_Bool}
 use Rattle.std.specs.Prelude.{filter_map}
 use Rattle.std.specs.List.{cons_option, concat}
 use Rattle.std.specs.Int.{w32, w64, to_be_bytes}
-use Rattle.std.proofs.lemmas.List.{map-append, reverse-append, length-append, length-map}
-use Rattle.std.proofs.lemmas.List.Elements.{All-head, All-tail, All-cons, All-nil}
-use Rattle.dwarf_lines.specs.Paths.{PathRecord}
+use Rattle.std.proofs.lemmas.List.{append-nil, map-append, reverse-append, length-append, length-map}
+use Rattle.std.proofs.lemmas.List.Elements.{All-head, All-tail}
 use Rattle.dwarf_source_frames.specs.Frames.{FrameRecord}
-use Rattle.table_source_frames.specs.LineText.{chains_of, chains_in, files_in, texts_in, innermost_name, innermost_path}
-use Rattle.table_source_frames.specs.LineText.{path_texts, LineParts, file_bytes, head_bytes}
-use Rattle.table_source_frames.specs.LineText.{line_text, location_bytes, parts_of, run_bytes, step_bytes, table_bytes, text_rows}
-use Rattle.table_source_frames.specs.Numbering.{numbered_after, same_chain, same_path, same_text}
-use Rattle.table_source_frames.specs.Steps.{StepRecord, starts_of}
+use Rattle.table_checked_pages.specs.Groups.{bytes_of, group_rows}
+use Rattle.table_source_frames.specs.LineText.{LineParts, all_step_bytes, file_bytes, files_in, head_bytes, innermost_column, innermost_line, innermost_name}
+use Rattle.table_source_frames.specs.LineText.{innermost_path, line_text, maybe_text_number, numbers_of, others_of, parts_of, path_texts, same_place}
+use Rattle.table_source_frames.specs.LineText.{scope_bytes, scope_number, scope_of, scopes_in, scopes_of, table_bytes, text_rows, texts_in, texts_of}
+use Rattle.table_source_frames.specs.Numbering.{number_in, numbered_after, same_chain, same_path, same_text}
+use Rattle.table_source_frames.specs.StepGroups.{step_groups}
+use Rattle.table_source_frames.specs.Steps.{StepRecord}
 use Rattle.table_source_frames.proofs.SameLemmas.{chain_decides, path_decides, text_decides}
 use Rattle.table_source_frames.specs.LineTable.{FitsLines}
-use Rattle.table_source_frames.specs.Runs.{lower_half, runs_after, runs_of}
-use Rattle.table_source_frames_build.specs.Kept.{KeptRecord, at_number, text_at, file_key_at, file_at, location_key_at}
-use Rattle.table_source_frames_build.specs.Kept.{frame_of_key, callers_of, chain_at, IsKept}
+use Rattle.table_source_frames_build.specs.Kept.{KeptRecord, at_number, text_at, file_key_at, file_at, location_key_at, scope_key_at}
+use Rattle.table_source_frames_build.specs.Kept.{caller_in, frame_in, frame_of_key, scope_numbers_of, chain_at, IsKept}
 use Rattle.table_source_frames_build.specs.Numbering.{IsNumber}
 use Rattle.table_source_frames_build.specs.FirstUses.{some_number}
-use Rattle.table_source_frames_build.specs.PartNumbers.{location_uses, file_uses, name_uses, path_uses}
-use Rattle.table_source_frames_build.specs.StepViews.{HaveLocations, step_of, step_starts}
-use Rattle.table_source_frames_build.specs.PartBytes.{file_row, file_rows, location_row, location_rows, step_row, texts_at}
+use Rattle.table_source_frames_build.specs.PartNumbers.{scope_uses, file_uses, name_uses, path_numbers, path_uses, unplaced}
+use Rattle.table_source_frames_build.specs.Places.{ArePlacesBelow}
+use Rattle.table_source_frames_build.specs.StepViews.{HaveLocations, step_of}
+use Rattle.table_source_frames_build.specs.PartBytes.{after_place, file_row, file_rows, groups_by, scope_row, scope_rows, step_numbers, text_number, texts_at}
 use Rattle.table_source_frames_build.specs.WholeText.{AreOrders, head_of, text_of_parts}
+use Rattle.table_source_frames_build.specs.declared.keys.FileKey.{FileKey}
 use Rattle.table_source_frames_build.specs.declared.keys.LocationKey.{LocationKey}
+use Rattle.table_source_frames_build.specs.declared.keys.ScopeKey.{ScopeKey}
 use Rattle.table_source_frames_build.specs.declared.step.Step.{Step}
-use Rattle.table_source_frames_build.proofs.KeptLemmas.{chain_step, chain_none, callers_step, callers_none}
+use Rattle.table_source_frames_build.proofs.ChainLemmas.{chain_apart, file_apart, reversed_each, scope_apart_by, scopes_are}
+use Rattle.table_source_frames_build.proofs.KeptLemmas.{chain_step, chain_none, scopes_step, scopes_none}
 use Rattle.table_source_frames_build.proofs.FirstUsesLemmas.{Each, each_append, told_after, each_after, told_number, told_or_zero}
+use Rattle.table_source_frames_build.proofs.TextLemmas.{number_told, texts_long, texts_more}
 
-at_apart : {A : Type 0} (count : ℕ) (f : ℕ → A) → ((m n : ℕ) → IsNumber count m → IsNumber count n → f m ≡ f n → m ≡ n)
-    → (m n : ℕ) → m ≤ count → n ≤ count → at_number f m ≡ at_number f n → m ≡ n
-at_apart count f apart zero zero a b e = refl
-at_apart count f apart zero (suc n) a b e = cc e
-at_apart count f apart (suc m) zero a b e = cc e
-at_apart count f apart (suc m) (suc n) a b e =
-    apart (suc m) (suc n) (record { some = omega arith; within = a }) (record { some = omega arith; within = b }) (cc e)
+-- what stands after some
+drop_past : {A : Type 0} (xs ys : List A) → drop (length xs) (xs ++ ys) ≡ ys
+drop_past [] ys = refl
+drop_past (x ∷ xs) ys = drop_past xs ys
+
+-- the scope with a number; 0 has no frames
+abbrev scope_at : KeptRecord → ℕ → List FrameRecord
+scope_at k zero = []
+scope_at k (suc i) = frame_in k (scope_key_at k (suc i)) 0 0 ∷ chain_at k (scope_key_at k (suc i)).caller
+
+-- a number is at most as many as there are
+each_within : (count : ℕ) (xs : List ℕ) → Each (IsNumber count) xs → Each (λ n. n ≤ count) xs
+each_within count [] each = tt
+each_within count (x ∷ xs) each = (each.0.within, each_within count xs each.1)
 
 module _ (k : KeptRecord) (kept : IsKept k) where
-  pub file_apart : (m n : ℕ) → IsNumber (length k.files) m → IsNumber (length k.files) n → file_at k m ≡ file_at k n → m ≡ n
-  file_apart m n a b e =
-      let one = kept.each_file m a in
-      let two = kept.each_file n b in
-      let base = kept.texts (file_key_at k m).base (file_key_at k n).base one.base two.base (ap (λ (p : PathRecord). p.base) e) in
-      let directory = kept.texts (file_key_at k m).directory (file_key_at k n).directory one.directory two.directory (ap (λ (p : PathRecord). p.directory) e) in
-      let name = kept.texts (file_key_at k m).name (file_key_at k n).name one.name two.name (ap (λ (p : PathRecord). p.name) e) in
-      kept.files m n a b (λ i. record { base = base i; directory = directory i; name = name i })
+  scope_apart : (m n : ℕ) → m ≤ length k.scopes → n ≤ length k.scopes → scope_at k m ≡ scope_at k n → m ≡ n
+  scope_apart zero zero a b e = refl
+  scope_apart zero (suc n) a b e = cc e
+  scope_apart (suc m) zero a b e = cc e
+  scope_apart (suc m) (suc n) a b e =
+      let p : ScopeKey = scope_key_at k (suc m) in
+      let q : ScopeKey = scope_key_at k (suc n) in
+      let one : IsNumber (length k.scopes) (suc m) = record { some = omega arith; within = a } in
+      let two : IsNumber (length k.scopes) (suc n) = record { some = omega arith; within = b } in
+      let frame : frame_in k p 0 0 ≡ frame_in k q 0 0 = cc e in
+      let rest : chain_at k p.caller ≡ chain_at k q.caller = cc e in
+      scope_apart_by k kept (suc m) (suc n) one two (ap (λ (f : FrameRecord). f.name) frame) (ap (λ (f : FrameRecord). f.path) frame)
+      (chain_apart k kept p.caller q.caller (kept.each_scope (suc m) one).caller (kept.each_scope (suc n) two).caller rest)
 
-  chain_apart_within : (room m n : ℕ) → m ≤ room → m ≤ length k.locations → n ≤ length k.locations → chain_at k m ≡ chain_at k n → m ≡ n
-  chain_apart_within room zero zero r a b e = refl
-  chain_apart_within room zero (suc n) r a b e = cc (chain_none k, chain_step k kept n b)
-  chain_apart_within room (suc m) zero r a b e = cc (chain_none k, chain_step k kept m a)
-  chain_apart_within zero (suc m) (suc n) r a b e = absurd (omega arith)
-  chain_apart_within (suc room) (suc m) (suc n) r a b e =
-      let p : LocationKey = location_key_at k (suc m) in
-      let q : LocationKey = location_key_at k (suc n) in
-      let one = kept.each_location (suc m) (record { some = omega arith; within = a }) in
-      let two = kept.each_location (suc n) (record { some = omega arith; within = b }) in
-      let both : ◌≡◌ {A = List FrameRecord} (frame_of_key k p ∷ chain_at k p.caller)
-      (frame_of_key k q ∷ chain_at k q.caller) = sym (chain_step k kept m a) ∙ e ∙ chain_step k kept n b in
-      let frame : frame_of_key k p ≡ frame_of_key k q = cc both in
-      let rest : chain_at k p.caller ≡ chain_at k q.caller = cc both in
-      let name : p.name ≡ q.name = at_apart (length k.texts) (text_at k) kept.texts p.name q.name one.name two.name (ap (λ (f : FrameRecord). f.name) frame) in
-      let file : p.file ≡ q.file = at_apart (length k.files) (file_at k) file_apart p.file q.file one.file two.file (ap (λ (f : FrameRecord). f.path) frame) in
-      let caller : p.caller ≡ q.caller = chain_apart_within room p.caller q.caller (omega (arith, one.caller, r))
-      (omega (arith, one.caller, a)) (omega (arith, two.caller, b)) rest in
-      kept.locations (suc m) (suc n) (record { some = omega arith; within = a }) (record { some = omega arith; within = b })
-      (λ i. record { name = name i; file = file i; line = (frame i).line; column = (frame i).column; caller = caller i })
+  -- the scope of frames
+  scope_here : (n : ℕ) (key : LocationKey) → IsNumber (length k.scopes) key.scope
+      → scope_of (frame_of_key k key ∷ chain_at k (caller_in k key)) ≡ scope_at k key.scope
+  scope_here n key is = here key.scope is
+    where
+      here : (scope : ℕ) → IsNumber (length k.scopes) scope
+          → ◌≡◌ {A = List FrameRecord} (frame_in k (scope_key_at k scope) 0 0 ∷ chain_at k (scope_key_at k scope).caller) (scope_at k scope)
+      here zero is = absurd (omega (arith, is.some))
+      here (suc i) is = refl
 
-  pub chain_apart : (m n : ℕ) → m ≤ length k.locations → n ≤ length k.locations → chain_at k m ≡ chain_at k n → m ≡ n
-  chain_apart m n a b e = chain_apart_within m m n (omega arith) a b e
+  pub scope_told : (n : ℕ) → n ≤ length k.locations → scope_of (chain_at k n) ≡ scope_at k (location_key_at k n).scope
+  scope_told zero a = ap scope_of (chain_none k)
+  scope_told (suc i) a =
+      ap scope_of (chain_step k kept i a)
+      ∙ scope_here (suc i) (location_key_at k (suc i)) (kept.each_location (suc i) (record { some = omega arith; within = a })).scope
 
-  -- the chains of a location are those of its callers, the outermost first
-  chains_within : (room n : ℕ) → n ≤ room → n ≤ length k.locations → chains_of (chain_at k n) ≡ map (chain_at k) (reverse (callers_of k n))
-  unfolding chains_of
-  chains_within room zero r a = ap chains_of (chain_none k) ∙ ap (λ l. map (chain_at k) (reverse l)) (sym (callers_none k))
-  chains_within zero (suc n) r a = absurd (omega arith)
-  chains_within (suc room) (suc n) r a =
+  -- the scopes of the frames of a location, the outermost first
+  scopes_within : (room n : ℕ) → n ≤ room → n ≤ length k.locations → scopes_of (chain_at k n) ≡ map (scope_at k) (reverse (scope_numbers_of k n))
+  unfolding scopes_of
+  scopes_within room zero r a = ap scopes_of (chain_none k) ∙ ap (λ l. map (scope_at k) (reverse l)) (sym (scopes_none k))
+  scopes_within zero (suc n) r a = absurd (omega arith)
+  scopes_within (suc room) (suc n) r a =
       let key : LocationKey = location_key_at k (suc n) in
       let one = kept.each_location (suc n) (record { some = omega arith; within = a }) in
-      let step : chain_at k (suc n) ≡ frame_of_key k key ∷ chain_at k key.caller = chain_step k kept n a in
-      let before : chains_of (chain_at k key.caller) ≡ map (chain_at k) (reverse (callers_of k key.caller)) =
-      chains_within room key.caller (omega (arith, one.caller, r)) (omega (arith, one.caller, a)) in
-      ap chains_of step
-      ∙ (λ i. before i ++ sym step i ∷ [])
-      ∙ sym (map-append (chain_at k) (reverse (callers_of k key.caller)) (suc n ∷ []))
-      ∙ ap (map (chain_at k)) (sym (reverse-append (suc n ∷ []) (callers_of k key.caller)))
-      ∙ ap (λ l. map (chain_at k) (reverse l)) (sym (callers_step k kept n a))
+      let before : scopes_of (chain_at k (caller_in k key)) ≡ map (scope_at k) (reverse (scope_numbers_of k (caller_in k key))) =
+      scopes_within room (caller_in k key) (omega (arith, one.caller, r)) (omega (arith, one.caller, a)) in
+      ap scopes_of (chain_step k kept n a)
+      ∙ (λ i. before i ++ scope_here (suc n) key one.scope i ∷ [])
+      ∙ sym (map-append (scope_at k) (reverse (scope_numbers_of k (caller_in k key))) (key.scope ∷ []))
+      ∙ ap (map (scope_at k)) (sym (reverse-append (key.scope ∷ []) (scope_numbers_of k (caller_in k key))))
+      ∙ ap (λ l. map (scope_at k) (reverse l)) (sym (scopes_step k kept n a))
 
-  pub chains_are : (n : ℕ) → n ≤ length k.locations → chains_of (chain_at k n) ≡ map (chain_at k) (reverse (callers_of k n))
-  chains_are n a = chains_within n n (omega arith) a
+  abbrev IsScopeNumber : ℕ → Type 0
+  IsScopeNumber n = IsNumber (length k.scopes) n
 
-  -- callers are numbers of locations
-  callers_each : (room n : ℕ) → n ≤ room → n ≤ length k.locations → Each (IsNumber (length k.locations)) (callers_of k n)
-  callers_each room zero r a = subst (Each (IsNumber (length k.locations))) (sym (callers_none k)) tt
-  callers_each zero (suc n) r a = absurd (omega arith)
-  callers_each (suc room) (suc n) r a =
-      let one = kept.each_location (suc n) (record { some = omega arith; within = a }) in
-      subst (Each (IsNumber (length k.locations))) (sym (callers_step k kept n a)) (
-        record { some = omega arith; within = a },
-        callers_each room (location_key_at k (suc n)).caller
-            (omega (arith, one.caller, r)) (omega (arith, one.caller, a)),
-      )
+  -- ---- scopes
 
-  pub callers_are : (n : ℕ) → n ≤ length k.locations → Each (IsNumber (length k.locations)) (callers_of k n)
-  callers_are n a = callers_each n n (omega arith) a
-
-  pub reversed_each : (P : ℕ → Type 0) (xs : List ℕ) → Each P xs → Each P (reverse xs)
-  reversed_each P [] each = tt
-  reversed_each P (x ∷ xs) each = subst (Each P) (sym (reverse-append (x ∷ []) xs))
-      (each_append P (reverse xs) (x ∷ []) (reversed_each P xs each.1) (each.0, tt))
-
--- ---- the parts of a table, by numbers and as they are defined
-
-module _ (k : KeptRecord) (kept : IsKept k) where
-  abbrev IsLocationNumber : ℕ → Type 0
-  IsLocationNumber n = IsNumber (length k.locations) n
-
-  -- ---- chains
-
-  location_uses_told : (steps : List Step) → HaveLocations k steps
-      → (flat_map (λ (s : StepRecord). chains_of s.frames) (map (step_of k) steps) ≡ map (chain_at k) (location_uses k steps))
-      × Each IsLocationNumber (location_uses k steps)
-  location_uses_told [] h = (refl, tt)
-  location_uses_told (s ∷ steps) h =
-      let numbers : List ℕ = callers_of k s.location in
+  scope_uses_told : (steps : List Step) → HaveLocations k steps
+      → (flat_map (λ (s : StepRecord). scopes_of s.frames) (map (step_of k) steps) ≡ map (scope_at k) (scope_uses k steps))
+      × Each IsScopeNumber (scope_uses k steps)
+  scope_uses_told [] h = (refl, tt)
+  scope_uses_told (s ∷ steps) h =
+      let numbers : List ℕ = scope_numbers_of k s.location in
       let here = All-head (λ (t : Step). t.location ≤ length k.locations) s steps h in
-      let rest = location_uses_told steps (All-tail (λ (t : Step). t.location ≤ length k.locations) s steps h) in (
-        (λ i. chains_are k kept s.location here i ++ rest.0 i) ∙ sym (map-append (chain_at k) (reverse numbers) (location_uses k steps)),
-        each_append IsLocationNumber (reverse numbers) (location_uses k steps)
-            (reversed_each k kept IsLocationNumber numbers (callers_are k kept s.location here)) rest.1,
+      let rest = scope_uses_told steps (All-tail (λ (t : Step). t.location ≤ length k.locations) s steps h) in (
+        (λ i. scopes_within s.location s.location (omega arith) here i ++ rest.0 i) ∙ sym (map-append (scope_at k) (reverse numbers) (scope_uses k steps)),
+        each_append IsScopeNumber (reverse numbers) (scope_uses k steps)
+            (reversed_each IsScopeNumber numbers (scopes_are k kept s.location here)) rest.1,
       )
 
-  pub chains_told : (steps : List Step) → HaveLocations k steps → chains_in (map (step_of k) steps)
-      ≡ map (chain_at k) (numbered_after nat_eq [] (location_uses k steps))
-  unfolding chains_in
-  chains_told steps h =
-      ap (numbered_after same_chain []) (location_uses_told steps h).0
-      ∙ told_after IsLocationNumber (chain_at k) same_chain chain_decides
-      (λ m n a b. chain_apart k kept m n a.within b.within) [] (location_uses k steps) tt
-      (location_uses_told steps h).1
+  scopes_told : (steps : List Step) → HaveLocations k steps → scopes_in (map (step_of k) steps)
+      ≡ map (scope_at k) (numbered_after nat_eq [] (scope_uses k steps))
+  unfolding scopes_in
+  scopes_told steps h =
+      ap (numbered_after same_chain []) (scope_uses_told steps h).0
+      ∙ told_after IsScopeNumber (scope_at k) same_chain chain_decides
+      (λ m n a b. scope_apart m n a.within b.within) [] (scope_uses k steps) tt
+      (scope_uses_told steps h).1
 
-  -- ---- files
+  -- ---- files and texts
 
   some_told : {A : Type 0} (count : ℕ) (f : ℕ → A) (n : ℕ) (rest : List A) (numbers : List ℕ) → n ≤ count
       → (rest ≡ map f numbers) × Each (IsNumber count) numbers
@@ -150,217 +134,327 @@ module _ (k : KeptRecord) (kept : IsKept k) where
   some_told count f (suc i) rest numbers h is = (ap (λ l. f (suc i) ∷ l) is.0, (record { some = omega arith; within = h }, is.1))
 
   -- what innermost frames have that a number of their keys tells of
-  module _ {A : Type 0} (count : ℕ) (f : ℕ → A) (field : LocationKey → ℕ) (within : (n : ℕ) → IsLocationNumber n → field (location_key_at k n) ≤ count)
+  module _ {A : Type 0} (count : ℕ) (f : ℕ → A) (field : ScopeKey → ℕ) (within : (n : ℕ) → IsScopeNumber n → field (scope_key_at k n) ≤ count)
       (innermost : List FrameRecord → Option A)
-      (first : (key : LocationKey) (rest : List FrameRecord) → innermost (frame_of_key k key ∷ rest) ≡ at_number f (field key)) where
+      (first : (key : ScopeKey) (rest : List FrameRecord) → innermost (frame_in k key 0 0 ∷ rest) ≡ at_number f (field key)) where
     abbrev uses : List ℕ → List ℕ
-    uses locations = flat_map (λ n. some_number (field (location_key_at k n))) locations
+    uses scopes = flat_map (λ n. some_number (field (scope_key_at k n))) scopes
 
-    uses_told : (locations : List ℕ) → Each IsLocationNumber locations
-        → (filter_map innermost (map (chain_at k) locations) ≡ map f (uses locations)) × Each (IsNumber count) (uses locations)
+    uses_told : (scopes : List ℕ) → Each IsScopeNumber scopes
+        → (filter_map innermost (map (scope_at k) scopes) ≡ map f (uses scopes)) × Each (IsNumber count) (uses scopes)
     uses_told [] each = (refl, tt)
-    uses_told (zero ∷ locations) each = absurd (omega (arith, each.0.some))
-    uses_told (suc i ∷ locations) each =
-        let key : LocationKey = location_key_at k (suc i) in
-        let others : List A = filter_map innermost (map (chain_at k) locations) in
-        let rest = some_told count f (field key) others (uses locations) (within (suc i) each.0) (uses_told locations each.1) in
-        (ap (λ (o : Option A). cons_option o others) (ap innermost (chain_step k kept i each.0.within) ∙ first key (chain_at k key.caller)) ∙ rest.0, rest.1)
+    uses_told (zero ∷ scopes) each = absurd (omega (arith, each.0.some))
+    uses_told (suc i ∷ scopes) each =
+        let key : ScopeKey = scope_key_at k (suc i) in
+        let others : List A = filter_map innermost (map (scope_at k) scopes) in
+        let rest = some_told count f (field key) others (uses scopes) (within (suc i) each.0) (uses_told scopes each.1) in
+        (ap (λ (o : Option A). cons_option o others) (first key (chain_at k key.caller)) ∙ rest.0, rest.1)
 
-  file_uses_told : (locations : List ℕ) → Each IsLocationNumber locations
-      → (filter_map innermost_path (map (chain_at k) locations) ≡ map (file_at k) (file_uses k locations))
-      × Each (IsNumber (length k.files)) (file_uses k locations)
+  file_uses_told : (scopes : List ℕ) → Each IsScopeNumber scopes
+      → (filter_map innermost_path (map (scope_at k) scopes) ≡ map (file_at k) (file_uses k scopes))
+      × Each (IsNumber (length k.files)) (file_uses k scopes)
   file_uses_told =
-      uses_told (length k.files) (file_at k) (λ (key : LocationKey). key.file) (λ n is. (kept.each_location n is).file) innermost_path (λ key rest. refl)
+      uses_told (length k.files) (file_at k) (λ (key : ScopeKey). key.file) (λ n is. (kept.each_scope n is).file) innermost_path (λ key rest. refl)
 
-  pub files_told : (locations : List ℕ) → Each IsLocationNumber locations → files_in (map (chain_at k) locations)
-      ≡ map (file_at k) (numbered_after nat_eq [] (file_uses k locations))
+  files_told : (scopes : List ℕ) → Each IsScopeNumber scopes → files_in (map (scope_at k) scopes)
+      ≡ map (file_at k) (numbered_after nat_eq [] (file_uses k scopes))
   unfolding files_in
-  files_told locations each =
-      ap (numbered_after same_path []) (file_uses_told locations each).0
+  files_told scopes each =
+      ap (numbered_after same_path []) (file_uses_told scopes each).0
       ∙ told_after (IsNumber (length k.files)) (file_at k) same_path path_decides (file_apart k kept) []
-      (file_uses k locations) tt (file_uses_told locations each).1
+      (file_uses k scopes) tt (file_uses_told scopes each).1
 
-  -- ---- texts
+  -- all texts of names, and of paths
+  abbrev all_names : List ℕ → List ℕ
+  all_names scopes = flat_map (λ n. some_number (scope_key_at k n).name) scopes
 
-  name_uses_told : (locations : List ℕ) → Each IsLocationNumber locations
-      → (filter_map innermost_name (map (chain_at k) locations) ≡ map (text_at k) (name_uses k locations))
-      × Each (IsNumber (length k.texts)) (name_uses k locations)
-  name_uses_told =
-      uses_told (length k.texts) (text_at k) (λ (key : LocationKey). key.name) (λ n is. (kept.each_location n is).name) innermost_name (λ key rest. refl)
+  abbrev all_paths : List ℕ → List ℕ
+  all_paths files = flat_map (λ n. path_numbers (file_key_at k n)) files
 
-  path_texts_told : (files : List ℕ) → flat_map path_texts (map (file_at k) files) ≡ map (text_at k) (path_uses k files)
-  path_texts_told [] = refl
-  path_texts_told (n ∷ files) = ap (λ l. path_texts (file_at k n) ++ l) (path_texts_told files)
+  names_told : (scopes : List ℕ) → Each IsScopeNumber scopes
+      → (filter_map innermost_name (map (scope_at k) scopes) ≡ map (text_at k) (all_names scopes))
+      × Each (IsNumber (length k.texts)) (all_names scopes)
+  names_told =
+      uses_told (length k.texts) (text_at k) (λ (key : ScopeKey). key.name) (λ n is. (kept.each_scope n is).name) innermost_name (λ key rest. refl)
 
-  path_uses_are : (files : List ℕ) → Each (IsNumber (length k.files)) files → Each (IsNumber (length k.texts)) (path_uses k files)
-  path_uses_are [] each = tt
-  path_uses_are (n ∷ files) each =
-      let is = kept.each_file n each.0 in (is.base, (is.directory, (is.name, path_uses_are files each.1)))
+  paths_told : (files : List ℕ) → flat_map path_texts (map (file_at k) files) ≡ map (text_at k) (all_paths files)
+  paths_told [] = refl
+  paths_told (n ∷ files) = ap (λ l. path_texts (file_at k n) ++ l) (paths_told files)
 
-  pub text_uses_are : (locations files : List ℕ) → Each IsLocationNumber locations
-      → Each (IsNumber (length k.files)) files → Each (IsNumber (length k.texts))
-      (name_uses k locations ++ path_uses k files)
-  text_uses_are locations files a b = each_append (IsNumber (length k.texts)) (name_uses k locations)
-      (path_uses k files) (name_uses_told locations a).1 (path_uses_are files b)
+  paths_are : (files : List ℕ) → Each (IsNumber (length k.files)) files → Each (IsNumber (length k.texts)) (all_paths files)
+  paths_are [] each = tt
+  paths_are (n ∷ files) each =
+      let is = kept.each_file n each.0 in (is.base, (is.directory, (is.name, paths_are files each.1)))
 
-  pub texts_told : (locations files : List ℕ) → Each IsLocationNumber locations → Each (IsNumber (length k.files)) files
-      → texts_in (map (chain_at k) locations) (map (file_at k) files) ≡ map (text_at k) (numbered_after nat_eq [] (name_uses k locations ++ path_uses k files))
+  -- those without places
+  unplaced_name : (places : List ℕ) (n : ℕ) → flat_map (unplaced places) (some_number n) ≡ unplaced places n
+  unplaced_name places zero = refl
+  unplaced_name places (suc i) = append-nil (unplaced places (suc i))
+
+  unplaced_append : (places xs ys : List ℕ) → flat_map (unplaced places) (xs ++ ys) ≡ flat_map (unplaced places) xs ++ flat_map (unplaced places) ys
+  unplaced_append places [] ys = refl
+  unplaced_append places (x ∷ xs) ys =
+      ap (λ l. unplaced places x ++ l) (unplaced_append places xs ys)
+      ∙ sym (append_assoc (unplaced places x) (flat_map (unplaced places) xs) (flat_map (unplaced places) ys))
+
+  unplaced_names : (places scopes : List ℕ) → flat_map (unplaced places) (all_names scopes) ≡ name_uses k places scopes
+  unplaced_names places [] = refl
+  unplaced_names places (n ∷ scopes) =
+      unplaced_append places (some_number (scope_key_at k n).name) (all_names scopes)
+      ∙ (λ i. unplaced_name places (scope_key_at k n).name i ++ unplaced_names places scopes i)
+
+  unplaced_paths : (places files : List ℕ) → flat_map (unplaced places) (all_paths files) ≡ path_uses k places files
+  unplaced_paths places [] = refl
+  unplaced_paths places (n ∷ files) =
+      unplaced_append places (path_numbers (file_key_at k n)) (all_paths files)
+      ∙ ap (λ l. flat_map (unplaced places) (path_numbers (file_key_at k n)) ++ l) (unplaced_paths places files)
+
+  some_append : (xs ys : List ℕ) → map (λ (t : List ℕ). Some t) (map (text_at k) xs ++ map (text_at k) ys) ≡ map (λ n. Some (text_at k n)) (xs ++ ys)
+  some_append [] [] = refl
+  some_append [] (y ∷ ys) = ap (λ l. Some (text_at k y) ∷ l) (some_append [] ys)
+  some_append (x ∷ xs) ys = ap (λ l. Some (text_at k x) ∷ l) (some_append xs ys)
+
+  texts_told : (strings places scopes files : List ℕ) → ArePlacesBelow k strings (length strings) places
+      → Each IsScopeNumber scopes → Each (IsNumber (length k.files)) files
+      → texts_in strings (map (scope_at k) scopes) (map (file_at k) files)
+      ≡ texts_of strings ++ map (λ n. Some (text_at k n)) (numbered_after nat_eq [] (name_uses k places scopes ++ path_uses k places files))
   unfolding texts_in
-  texts_told locations files a b =
-      ap (numbered_after same_text [])
-      ((λ i. (name_uses_told locations a).0 i ++ path_texts_told files i) ∙ sym (map-append (text_at k) (name_uses k locations) (path_uses k files)))
-      ∙ told_after (IsNumber (length k.texts)) (text_at k) same_text text_decides kept.texts []
-      (name_uses k locations ++ path_uses k files) tt (text_uses_are locations files a b)
+  texts_told strings places scopes files are a b =
+      let uses : List ℕ = all_names scopes ++ all_paths files in
+      let each : Each (IsNumber (length k.texts)) uses =
+      each_append (IsNumber (length k.texts)) (all_names scopes) (all_paths files) (names_told scopes a).1 (paths_are files b) in
+      ap (λ (ts : List (List ℕ)). numbered_after same_place (texts_of strings) (map (λ t. Some t) ts))
+      (λ i. (names_told scopes a).0 i ++ paths_told files i)
+      ∙ ap (numbered_after same_place (texts_of strings)) (some_append (all_names scopes) (all_paths files))
+      ∙ ap (λ l. numbered_after same_place l (map (λ n. Some (text_at k n)) uses)) (sym (append-nil (texts_of strings)))
+      ∙ texts_more k kept strings places are [] uses tt each
+      ∙ ap (λ (ns : List ℕ). texts_of strings ++ map (λ n. Some (text_at k n)) (numbered_after nat_eq [] ns))
+      (unplaced_append places (all_names scopes) (all_paths files)
+      ∙ (λ i. unplaced_names places scopes i ++ unplaced_paths places files i))
+
+  unplaced_are : (places : List ℕ) (n : ℕ) → n ≤ length k.texts → Each (IsNumber (length k.texts)) (unplaced places n)
+  unplaced_are places zero within = tt
+  unplaced_are places (suc i) within = elim (cases_Bool (nat_eq (get_or places i 0) 0)) [
+    | inl t ↦ rw t (record { some = omega arith; within = within }, tt)
+    | inr f ↦ rw f tt
+  ]
+
+  unplaced_names_are : (places scopes : List ℕ) → Each IsScopeNumber scopes → Each (IsNumber (length k.texts)) (name_uses k places scopes)
+  unplaced_names_are places [] each = tt
+  unplaced_names_are places (n ∷ scopes) each =
+      each_append (IsNumber (length k.texts)) (unplaced places (scope_key_at k n).name) (name_uses k places scopes)
+      (unplaced_are places (scope_key_at k n).name (kept.each_scope n each.0).name) (unplaced_names_are places scopes each.1)
+
+  unplaced_paths_are : (places files : List ℕ) → Each (IsNumber (length k.files)) files → Each (IsNumber (length k.texts)) (path_uses k places files)
+  unplaced_paths_are places [] each = tt
+  unplaced_paths_are places (n ∷ files) each =
+      let is = kept.each_file n each.0 in
+      let key : FileKey = file_key_at k n in
+      each_append (IsNumber (length k.texts)) (flat_map (unplaced places) (path_numbers key)) (path_uses k places files)
+      (each_append (IsNumber (length k.texts)) (unplaced places key.base) (unplaced places key.directory ++ (unplaced places key.name ++ []))
+      (unplaced_are places key.base is.base.within)
+      (each_append (IsNumber (length k.texts)) (unplaced places key.directory) (unplaced places key.name ++ [])
+      (unplaced_are places key.directory is.directory.within)
+      (each_append (IsNumber (length k.texts)) (unplaced places key.name) [] (unplaced_are places key.name is.name.within) tt)))
+      (unplaced_paths_are places files each.1)
 
 -- ---- the bytes of a table, by numbers and as they are defined
 
--- a number is at most as many as there are
-each_within : (count : ℕ) (xs : List ℕ) → Each (IsNumber count) xs → Each (λ n. n ≤ count) xs
-each_within count [] each = tt
-each_within count (x ∷ xs) each = (each.0.within, each_within count xs each.1)
-
--- steps stand where those that they are stand
-starts_same : (k : KeptRecord) (steps : List Step) → starts_of (map (step_of k) steps) ≡ step_starts steps
-starts_same k [] = refl
-starts_same k (s ∷ steps) = λ i. s.start ∷ starts_same k steps i
-
-module _ (k : KeptRecord) (kept : IsKept k) where
-  module _ (locations files texts : List ℕ) (are_locations : Each (IsNumber (length k.locations)) locations)
+module _ (k : KeptRecord) (kept : IsKept k) (strings places : List ℕ) (are_places : ArePlacesBelow k strings (length strings) places) where
+  module _ (scopes files texts : List ℕ) (are_scopes : Each (IsNumber (length k.scopes)) scopes)
       (are_files : Each (IsNumber (length k.files)) files) (are_texts : Each (IsNumber (length k.texts)) texts)
       (steps_told : List StepRecord) where
     abbrev parts : LineParts
-    parts = record { steps = steps_told; chains = map (chain_at k) locations; files = map (file_at k) files; texts = map (text_at k) texts }
+    parts = record {
+      strings = strings;
+      steps = steps_told;
+      scopes = map (scope_at k) scopes;
+      files = map (file_at k) files;
+      texts = texts_of strings ++ map (λ n. Some (text_at k n)) texts;
+    }
 
-    step_same : (s : Step) → s.location ≤ length k.locations → step_bytes parts (step_of k s) ≡ step_row locations s
-    unfolding step_bytes step_row
-    step_same s within =
-        ap (λ n. to_be_bytes w32 (lower_half s.start) ++ to_be_bytes w32 n)
-        (told_number (λ n. n ≤ length k.locations) (chain_at k) same_chain chain_decides (chain_apart k kept) locations
-        s.location (each_within (length k.locations) locations are_locations) within)
+    abbrev text : ℕ → ℕ
+    text n = text_number (length strings) places texts n
 
-    pub steps_same : (steps : List Step) → HaveLocations k steps → flat_map (step_bytes parts) (map (step_of k) steps) ≡ flat_map (step_row locations) steps
-    steps_same [] h = refl
-    steps_same (s ∷ steps) h =
-        λ i. step_same s (All-head (λ (t : Step). t.location ≤ length k.locations) s steps h) i
-        ++ steps_same steps (All-tail (λ (t : Step). t.location ≤ length k.locations) s steps h) i
+    -- the texts that are not among the strings
+    somes : (ns : List ℕ) → filter_map (λ (o : Option (List ℕ)). o) (map (λ n. Some (text_at k n)) ns) ≡ texts_at k ns
+    somes [] = refl
+    somes (n ∷ ns) = ap (λ l. text_at k n ∷ l) (somes ns)
 
-    row_same : (n : ℕ) (key : LocationKey) → key.name ≤ length k.texts → key.file ≤ length k.files → key.caller ≤ length k.locations
-        → location_bytes parts (frame_of_key k key ∷ chain_at k key.caller) ≡ location_row locations files texts key
-    unfolding location_bytes location_row
-    row_same n key name file caller =
-        let a = told_or_zero (length k.texts) (text_at k) same_text text_decides kept.texts texts key.name are_texts name in
+    pub others_same : others_of parts ≡ texts_at k texts
+    others_same =
+        ap (λ m. filter_map (λ (o : Option (List ℕ)). o) (drop m (texts_of strings ++ map (λ n. Some (text_at k n)) texts))) (sym (texts_long strings []))
+        ∙ ap (filter_map (λ (o : Option (List ℕ)). o)) (drop_past (texts_of strings) (map (λ n. Some (text_at k n)) texts))
+        ∙ somes texts
+
+    scope_number_same : (n : ℕ) → n ≤ length k.locations → scope_number parts (chain_at k n) ≡ number_in nat_eq scopes (location_key_at k n).scope
+    scope_number_same n within =
+        ap (number_in same_chain (map (scope_at k) scopes)) (scope_told k kept n within)
+        ∙ told_number (λ m. m ≤ length k.scopes) (scope_at k) same_chain chain_decides (scope_apart k kept) scopes (location_key_at k n).scope
+        (each_within (length k.scopes) scopes are_scopes) (scope_in n within)
+      where
+        scope_in : (n : ℕ) → n ≤ length k.locations → (location_key_at k n).scope ≤ length k.scopes
+        scope_in zero within = omega arith
+        scope_in (suc i) within = (kept.each_location (suc i) (record { some = omega arith; within = within })).scope.within
+
+    line_same : (n : ℕ) → n ≤ length k.locations → innermost_line (chain_at k n) ≡ (location_key_at k n).line
+    line_same zero within = ap innermost_line (chain_none k)
+    line_same (suc i) within = ap innermost_line (chain_step k kept i within)
+
+    column_same : (n : ℕ) → n ≤ length k.locations → innermost_column (chain_at k n) ≡ (location_key_at k n).column
+    column_same zero within = ap innermost_column (chain_none k)
+    column_same (suc i) within = ap innermost_column (chain_step k kept i within)
+
+    numbers_same : (steps : List Step) → HaveLocations k steps → map (numbers_of parts) (map (step_of k) steps) ≡ map (step_numbers k scopes) steps
+    numbers_same [] h = refl
+    numbers_same (s ∷ steps) h =
+        let within : s.location ≤ length k.locations = All-head (λ (t : Step). t.location ≤ length k.locations) s steps h in
+        λ i. record {
+          start = s.start;
+          scope = scope_number_same s.location within i;
+          line = line_same s.location within i;
+          column = column_same s.location within i;
+        } ∷ numbers_same steps (All-tail (λ (t : Step). t.location ≤ length k.locations) s steps h) i
+
+    maybe_text_same : (n : ℕ) → n ≤ length k.texts → maybe_text_number parts (at_number (text_at k) n) ≡ text n
+    maybe_text_same zero within =
+        ap (after_place (length strings) 0)
+        (told_or_zero (length k.texts) (text_at k) same_text text_decides kept.texts texts 0 are_texts (omega arith))
+    maybe_text_same (suc i) within = number_told k kept strings places are_places texts (suc i) are_texts (record { some = omega arith; within = within })
+
+    row_same : (key : ScopeKey) → key.name ≤ length k.texts → key.file ≤ length k.files → key.caller ≤ length k.locations
+        → scope_bytes parts (frame_in k key 0 0 ∷ chain_at k key.caller) ≡ scope_row k scopes files text key
+    unfolding scope_bytes scope_row
+    row_same key name file caller =
         let b = told_or_zero (length k.files) (file_at k) same_path path_decides (file_apart k kept) files key.file are_files file in
-        let c = told_number (λ m. m ≤ length k.locations) (chain_at k) same_chain chain_decides (chain_apart k kept)
-        locations key.caller (each_within (length k.locations) locations are_locations) caller in
-        λ i. to_be_bytes w32 (a i) ++ (to_be_bytes w32 (b i) ++ (to_be_bytes w32 key.line ++ (to_be_bytes w32 key.column ++ to_be_bytes w32 (c i))))
+        λ i. to_be_bytes w32 (maybe_text_same key.name name i) ++ (to_be_bytes w32 (b i)
+        ++ (to_be_bytes w32 (line_same key.caller caller i) ++ (to_be_bytes w32 (column_same key.caller caller i)
+        ++ to_be_bytes w32 (scope_number_same key.caller caller i))))
 
-    location_same : (n : ℕ) → IsNumber (length k.locations) n → location_bytes parts (chain_at k n) ≡ location_row locations files texts (location_key_at k n)
-    location_same zero is = absurd (omega (arith, is.some))
-    location_same (suc i) is =
-        let one = kept.each_location (suc i) is in
-        ap (location_bytes parts) (chain_step k kept i is.within)
-        ∙ row_same (suc i) (location_key_at k (suc i)) one.name one.file (omega (arith, one.caller, is.within))
+    scopes_same : (numbers : List ℕ) → Each (IsNumber (length k.scopes)) numbers
+        → flat_map (scope_bytes parts) (map (scope_at k) numbers) ≡ scope_rows k scopes files text numbers
+    scopes_same [] each = refl
+    scopes_same (zero ∷ numbers) each = absurd (omega (arith, each.0.some))
+    scopes_same (suc n ∷ numbers) each =
+        let one = kept.each_scope (suc n) each.0 in
+        λ i. row_same (scope_key_at k (suc n)) one.name one.file one.caller i ++ scopes_same numbers each.1 i
 
-    pub locations_same : (numbers : List ℕ) → Each (IsNumber (length k.locations)) numbers
-        → flat_map (location_bytes parts) (map (chain_at k) numbers) ≡ location_rows k locations files texts numbers
-    locations_same [] each = refl
-    locations_same (n ∷ numbers) each = λ i. location_same n each.0 i ++ locations_same numbers each.1 i
-
-    file_same : (n : ℕ) → IsNumber (length k.files) n → file_bytes parts (file_at k n) ≡ file_row texts (file_key_at k n)
+    file_same : (n : ℕ) → IsNumber (length k.files) n → file_bytes parts (file_at k n) ≡ file_row text (file_key_at k n)
     unfolding file_bytes file_row
     file_same n is =
         let one = kept.each_file n is in
-        let number = told_number (IsNumber (length k.texts)) (text_at k) same_text text_decides kept.texts texts in
-        λ i. to_be_bytes w32 (number (file_key_at k n).base are_texts one.base i)
-        ++ (to_be_bytes w32 (number (file_key_at k n).directory are_texts one.directory i)
-        ++ to_be_bytes w32 (number (file_key_at k n).name are_texts one.name i))
+        let number = λ (m : ℕ) (of : IsNumber (length k.texts) m). number_told k kept strings places are_places texts m are_texts of in
+        λ i. to_be_bytes w32 (number (file_key_at k n).base one.base i)
+        ++ (to_be_bytes w32 (number (file_key_at k n).directory one.directory i)
+        ++ to_be_bytes w32 (number (file_key_at k n).name one.name i))
 
-    pub files_same : (numbers : List ℕ) → Each (IsNumber (length k.files)) numbers
-        → flat_map (file_bytes parts) (map (file_at k) numbers) ≡ file_rows k texts numbers
+    files_same : (numbers : List ℕ) → Each (IsNumber (length k.files)) numbers
+        → flat_map (file_bytes parts) (map (file_at k) numbers) ≡ file_rows k text numbers
     files_same [] each = refl
     files_same (n ∷ numbers) each = λ i. file_same n each.0 i ++ files_same numbers each.1 i
 
     -- the whole of it
     pub table_same : (steps : List Step) → HaveLocations k steps → steps_told ≡ map (step_of k) steps
-        → table_bytes parts ≡ text_of_parts k steps locations files texts
+        → table_bytes parts ≡ text_of_parts k (length strings) steps places scopes files texts
     unfolding table_bytes head_bytes text_of_parts head_of
     table_same steps h told =
         let count : length steps_told ≡ length steps = ap length told ∙ length-map steps (step_of k) in
-        let one : length (map (chain_at k) locations) ≡ length locations = length-map locations (chain_at k) in
+        let one : length (map (scope_at k) scopes) ≡ length scopes = length-map scopes (scope_at k) in
         let two : length (map (file_at k) files) ≡ length files = length-map files (file_at k) in
-        let three : length (map (text_at k) texts) ≡ length texts = length-map texts (text_at k) in
-        let runs : runs_of steps_told ≡ runs_after 0 (step_starts steps) = ap runs_of told ∙ ap (runs_after 0) (starts_same k steps) in
-        let rows : flat_map (step_bytes parts) steps_told ≡ flat_map (step_row locations) steps = ap (flat_map (step_bytes parts)) told ∙ steps_same steps h in
+        let three : length (others_of parts) ≡ length texts = ap length others_same ∙ length-map texts (text_at k) in
+        let groups : step_groups (map (numbers_of parts) steps_told) ≡ step_groups (map (step_numbers k scopes) steps) =
+        ap step_groups (ap (map (numbers_of parts)) told ∙ numbers_same steps h) in
         λ i.
-        (to_be_bytes w64 1 ++ (to_be_bytes w64 (length (runs i))
-        ++ (to_be_bytes w64 (count i) ++ (to_be_bytes w64 (one i)
-        ++ (to_be_bytes w64 (two i) ++ (to_be_bytes w64 (three i)
-        ++ to_be_bytes w64 (length (concat (map (text_at k) texts)))))))))
-        ++ (flat_map run_bytes (runs i) ++ (rows i ++ (locations_same locations are_locations i
-        ++ (files_same files are_files i ++ (text_rows 0 (map (text_at k) texts)
-        ++ concat (map (text_at k) texts))))))
+        (to_be_bytes w64 1 ++ (to_be_bytes w64 (count i) ++ (to_be_bytes w64 (length (bytes_of (groups i)))
+        ++ (to_be_bytes w64 (one i) ++ (to_be_bytes w64 (two i) ++ (to_be_bytes w64 (three i)
+        ++ to_be_bytes w64 (length (concat (others_same i)))))))))
+        ++ (group_rows 0 (groups i) ++ (bytes_of (groups i) ++ (scopes_same scopes are_scopes i
+        ++ (files_same files are_files i ++ (text_rows 0 (others_same i) ++ concat (others_same i))))))
 
   -- ---- of the parts that steps have
 
-  module _ (steps : List Step) (h : HaveLocations k steps) (locations files texts : List ℕ) (orders : AreOrders k steps locations files texts) where
-    are_locations : Each (IsNumber (length k.locations)) locations
-    are_locations = subst (Each (IsNumber (length k.locations))) (sym orders.locations_are)
-        (each_after (IsNumber (length k.locations)) [] _ tt (location_uses_told k kept steps h).1)
+  module _ (steps : List Step) (h : HaveLocations k steps) (scopes files texts : List ℕ)
+      (orders : AreOrders k strings steps places scopes files texts) where
+    are_scopes : Each (IsNumber (length k.scopes)) scopes
+    are_scopes = subst (Each (IsNumber (length k.scopes))) (sym orders.scopes_are)
+        (each_after (IsNumber (length k.scopes)) [] _ tt (scope_uses_told k kept steps h).1)
 
     are_files : Each (IsNumber (length k.files)) files
     are_files = subst (Each (IsNumber (length k.files))) (sym orders.files_are)
-        (each_after (IsNumber (length k.files)) [] _ tt (file_uses_told k kept locations are_locations).1)
+        (each_after (IsNumber (length k.files)) [] _ tt (file_uses_told k kept scopes are_scopes).1)
 
     are_texts : Each (IsNumber (length k.texts)) texts
     are_texts = subst (Each (IsNumber (length k.texts))) (sym orders.texts_are)
-        (each_after (IsNumber (length k.texts)) [] _ tt (text_uses_are k kept locations files are_locations are_files))
+        (each_after (IsNumber (length k.texts)) [] _ tt
+        (each_append (IsNumber (length k.texts)) (name_uses k places scopes) (path_uses k places files)
+        (unplaced_names_are k kept places scopes are_scopes) (unplaced_paths_are k kept places files are_files)))
 
-    chains_is : chains_in (map (step_of k) steps) ≡ map (chain_at k) locations
-    chains_is = chains_told k kept steps h ∙ ap (map (chain_at k)) (sym orders.locations_are)
+    scopes_is : scopes_in (map (step_of k) steps) ≡ map (scope_at k) scopes
+    scopes_is = scopes_told k kept steps h ∙ ap (map (scope_at k)) (sym orders.scopes_are)
 
-    files_is : files_in (chains_in (map (step_of k) steps)) ≡ map (file_at k) files
-    files_is = ap files_in chains_is ∙ files_told k kept locations are_locations ∙ ap (map (file_at k)) (sym orders.files_are)
+    files_is : files_in (scopes_in (map (step_of k) steps)) ≡ map (file_at k) files
+    files_is = ap files_in scopes_is ∙ files_told k kept scopes are_scopes ∙ ap (map (file_at k)) (sym orders.files_are)
 
-    texts_is : texts_in (chains_in (map (step_of k) steps)) (files_in (chains_in (map (step_of k) steps))) ≡ map (text_at k) texts
-    texts_is = (λ i. texts_in (chains_is i) (files_is i)) ∙ texts_told k kept locations files are_locations are_files
-        ∙ ap (map (text_at k)) (sym orders.texts_are)
+    texts_is : texts_in strings (scopes_in (map (step_of k) steps)) (files_in (scopes_in (map (step_of k) steps)))
+        ≡ texts_of strings ++ map (λ n. Some (text_at k n)) texts
+    texts_is =
+        (λ i. texts_in strings (scopes_is i) (files_is i)) ∙ texts_told k kept strings places scopes files are_places are_scopes are_files
+        ∙ ap (λ (ns : List ℕ). texts_of strings ++ map (λ n. Some (text_at k n)) ns) (sym orders.texts_are)
 
-    parts_are : parts_of (map (step_of k) steps) ≡ record {
-      steps = map (step_of k) steps;
-      chains = map (chain_at k) locations;
-      files = map (file_at k) files;
-      texts =
-          map (text_at k) texts;
-    }
-    parts_are = λ i. record { steps = map (step_of k) steps; chains = chains_is i; files = files_is i; texts = texts_is i }
+    parts_are : parts_of strings (map (step_of k) steps) ≡ parts scopes files texts are_scopes are_files are_texts (map (step_of k) steps)
+    parts_are = λ i. record { strings = strings; steps = map (step_of k) steps; scopes = scopes_is i; files = files_is i; texts = texts_is i }
 
-    pub line_text_is : line_text (map (step_of k) steps) ≡ text_of_parts k steps locations files texts
-    line_text_is = ap table_bytes parts_are ∙ table_same locations files texts are_locations are_files are_texts (map (step_of k) steps) steps h refl
+    pub line_text_is : line_text strings (map (step_of k) steps) ≡ text_of_parts k (length strings) steps places scopes files texts
+    line_text_is = ap table_bytes parts_are ∙ table_same scopes files texts are_scopes are_files are_texts (map (step_of k) steps) steps h refl
+
+    others_is : others_of (parts_of strings (map (step_of k) steps)) ≡ texts_at k texts
+    others_is = ap others_of parts_are ∙ others_same scopes files texts are_scopes are_files are_texts (map (step_of k) steps)
+
+    texts_count : length (texts_in strings (scopes_in (map (step_of k) steps)) (files_in (scopes_in (map (step_of k) steps)))) ≡ length strings + length texts
+    texts_count =
+        ap length texts_is ∙ length-append (texts_of strings) (map (λ n. Some (text_at k n)) texts)
+        ∙ (λ i. texts_long strings [] i + length-map texts (λ n. Some (text_at k n)) i)
+
+    step_bytes_is : all_step_bytes (parts_of strings (map (step_of k) steps)) ≡ bytes_of (groups_by k scopes steps)
+    step_bytes_is =
+        ap all_step_bytes parts_are
+        ∙ ap (λ ns. bytes_of (step_groups ns))
+        (numbers_same scopes files texts are_scopes are_files are_texts (map (step_of k) steps) steps h)
 
     -- it fits
-    pub fits : (room : ℕ) → length steps < 2 ^ 32 → length locations < 2 ^ 32 → length files < 2 ^ 32
-        → length texts < 2 ^ 32 → length (concat (texts_at k texts)) < 2 ^ 32
-        → length (text_of_parts k steps locations files texts) ≤ room
-        → FitsLines room (map (step_of k) steps)
-    fits room s l f t b size = record {
+    pub fits : (room : ℕ) → length steps < 2 ^ 32 → length (bytes_of (groups_by k scopes steps)) < 2 ^ 32
+        → length scopes < 2 ^ 32 → length files < 2 ^ 32
+        → length strings + length texts < 2 ^ 32 → length (concat (texts_at k texts)) < 2 ^ 32
+        → length (text_of_parts k (length strings) steps places scopes files texts) ≤ room
+        → FitsLines room strings (map (step_of k) steps)
+    fits room s w l f t b size = record {
       few = record {
         steps = omega (arith, s, length-map steps (step_of k));
-        chains = omega (arith, l, ap length chains_is, length-map locations (chain_at k));
+        step_bytes = omega (arith, w, ap length step_bytes_is);
+        scopes = omega (arith, l, ap length scopes_is, length-map scopes (scope_at k));
         files = omega (arith, f, ap length files_is, length-map files (file_at k));
-        texts = omega (arith, t, ap length texts_is, length-map texts (text_at k));
-        bytes = omega (arith, b, ap (λ (ts : List (List ℕ)). length (concat ts)) texts_is);
+        texts = omega (arith, t, texts_count);
+        bytes = omega (arith, b, ap (λ (ts : List (List ℕ)). length (concat ts)) others_is);
       };
       size = omega (arith, size, ap length line_text_is);
     }
 
     -- it does not
-    pub too_long : (room : ℕ) → room < length (text_of_parts k steps locations files texts) → FitsLines room (map (step_of k) steps) → ⊥
+    pub too_long : (room : ℕ) → room < length (text_of_parts k (length strings) steps places scopes files texts)
+        → FitsLines room strings (map (step_of k) steps) → ⊥
     too_long room long fit = omega (arith, long, fit.size, ap length line_text_is)
 
-    texts_within : length (concat (texts_at k texts)) ≤ length (text_of_parts k steps locations files texts)
+    pub too_many_texts : (room : ℕ) → 2 ^ 32 ≤ length strings + length texts → FitsLines room strings (map (step_of k) steps) → ⊥
+    too_many_texts room many fit = omega (arith, many, fit.few.texts, texts_count)
+
+    pub too_many_bytes : (room : ℕ) → 2 ^ 32 ≤ length (bytes_of (groups_by k scopes steps)) → FitsLines room strings (map (step_of k) steps) → ⊥
+    too_many_bytes room many fit = omega (arith, many, fit.few.step_bytes, ap length step_bytes_is)
+
+    texts_within : length (concat (texts_at k texts)) ≤ length (text_of_parts k (length strings) steps places scopes files texts)
     unfolding text_of_parts
     texts_within = simp length-append (omega arith)
 
-    pub too_much_text : (room most : ℕ) → most ≡ min room 4294967295 → most < length (concat (texts_at k texts)) → FitsLines room (map (step_of k) steps) → ⊥
+    pub too_much_text : (room most : ℕ) → most ≡ min room 4294967295 → most < length (concat (texts_at k texts))
+        → FitsLines room strings (map (step_of k) steps) → ⊥
     too_much_text room most is more fit =
-        omega (arith, is, more, fit.size, fit.few.bytes, ap length line_text_is, texts_within, ap (λ (ts : List (List ℕ)). length (concat ts)) texts_is)
+        omega (arith, is, more, fit.size, fit.few.bytes, ap length line_text_is, texts_within, ap (λ (ts : List (List ℕ)). length (concat ts)) others_is)

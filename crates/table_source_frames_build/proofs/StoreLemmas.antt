@@ -1,12 +1,11 @@
 -- What a store has taken, and its least steps.
-use Rattle.std.proofs.Common.{◌≡◌, ℕ, ◌≤◌, nat_eq, Bool, true, false, List, [], ◌∷◌, map, length, get_or, Option, Some}
-use Rattle.std.proofs.Common.{None, refl, sym, ap, ◌∙◌, inl, inr, arith, subst}
+use Rattle.std.proofs.Common.{◌≡◌, ℕ, ◌≤◌, nat_eq, true, false, List, [], ◌∷◌, map, length, get_or}
+use Rattle.std.proofs.Common.{refl, sym, ap, ◌∙◌, inl, inr, arith, subst}
 use Rattle.std.specs.List.Sorted.{IsNonDecreasingBy, IsPermutation}
 use Rattle.std.proofs.lemmas.Bool.{cases_Bool}
 use Rattle.std.proofs.lemmas.List.{get_or-map, length-map}
 use Rattle.std.proofs.lemmas.List.Elements.{All-cons, All-head, All-tail}
 use Rattle.std.proofs.lemmas.List.Sorted.{All-permutation, IsPermutation-map}
-use Rattle.dwarf_source_frames.specs.Frames.{FrameRecord}
 use Rattle.table_source_frames.specs.LineTable.{IsLineTextWithin}
 use Rattle.table_source_frames.specs.Numbering.{same_chain}
 use Rattle.table_source_frames.specs.Steps.{StepRecord}
@@ -17,7 +16,7 @@ use Rattle.table_source_frames_build.specs.StepViews.{HaveLocations, changed_aft
 use Rattle.table_source_frames_build.specs.declared.step.Step.{Step}
 use Rattle.table_source_frames_build.proofs.KeptLemmas.{chain_none, chain_same, location_stays, name_stays, path_stays}
 use Rattle.table_source_frames_build.proofs.FirstUsesLemmas.{told_same}
-use Rattle.table_source_frames_build.proofs.PartLemmas.{chain_apart}
+use Rattle.table_source_frames_build.proofs.ChainLemmas.{chain_apart}
 
 -- ---- what is kept grows
 
@@ -106,7 +105,7 @@ module _ (k : KeptRecord) (kept : IsKept k) where
 
   -- ---- what is written
 
-  pub written : (room : ℕ) (steps changed : List Step) (value : List StepRecord) (bytes : List ℕ)
+  pub written : (room : ℕ) (strings : List ℕ) (steps changed : List Step) (value : List StepRecord) (bytes : List ℕ)
       → map (step_of k) steps ≡ value → AreLeastSteps (map (step_of k) steps) (map (step_of k) changed)
-      → IsLineTextWithin room (map (step_of k) changed) bytes → IsWritten room value bytes
-  written room steps changed value bytes e least text = subst (λ v. IsWritten room v bytes) e (map (step_of k) changed, least, text)
+      → IsLineTextWithin room strings (map (step_of k) changed) bytes → IsWritten room strings value bytes
+  written room strings steps changed value bytes e least text = subst (λ v. IsWritten room strings v bytes) e (map (step_of k) changed, least, text)

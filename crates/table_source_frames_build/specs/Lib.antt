@@ -7,6 +7,7 @@ pub mod FirstUses
 pub mod StepViews
 pub mod StoreViews
 pub mod Lines
+pub mod Places
 pub mod PartNumbers
 pub mod PartBytes
 pub mod WholeText

@@ -21,7 +21,7 @@ pub record AreLeastSteps (added steps : List StepRecord) : Type 0 where
   pub ascend : IsNonDecreasingBy (λ (s : StepRecord). s.start) sorted
   pub are_changes : steps ≡ changes_after [] sorted
 
--- the table of the fewest steps of a store, if `room` bytes are allowed
-abbrev pub IsWritten : ℕ → List StepRecord → List ℕ → Type 0
-IsWritten room added bytes =
-    (steps : List StepRecord) × AreLeastSteps added steps × IsLineTextWithin room steps bytes
+-- the table of the fewest steps of a store, in a slice with these strings, if `room` bytes are allowed
+abbrev pub IsWritten : ℕ → List ℕ → List StepRecord → List ℕ → Type 0
+IsWritten room strings added bytes =
+    (steps : List StepRecord) × AreLeastSteps added steps × IsLineTextWithin room strings steps bytes

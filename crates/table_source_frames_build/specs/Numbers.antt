@@ -1,5 +1,5 @@
 -- Keys and their numbers, from 1 on.
-use Rattle.std.specs.Prelude.{ℕ, suc, List, [], ◌∷◌, ◌++◌, ◌≡◌, ◌⊎◌, true, false, slice_get, Some}
+use Rattle.std.specs.Prelude.{ℕ, suc, List, [], ◌∷◌, ◌++◌, ◌≡◌, ◌⊎◌, true, false, slice_get, Option, Some, MatchOption}
 use Rattle.std.specs.Ordering.{is_eq}
 use Rattle.std.specs.declared.cmp.Ordering.{Ordering}
 use Rattle.std.specs.BTreeMap as tree_map
@@ -17,3 +17,9 @@ pub record IsNumbered {K : Type 0} (cmp : K → K → Ordering) (old : List K) (
   pub there : (i : ℕ) × (k : K) × (number ≡ suc i) × (slice_get new i ≡ Some k) × (is_eq (cmp key k) ≡ true)
   pub kept : (new ≡ old) ⊎ ((new ≡ old ++ key ∷ [])
       × ((i : ℕ) (k : K) → slice_get old i ≡ Some k → is_eq (cmp key k) ≡ false))
+
+-- a key has this number among keys, or none
+abbrev pub IsFoundIn : {K : Type 0} → (K → K → Ordering) → List K → K → Option ℕ → Type 0
+IsFoundIn {K} cmp keys key found =
+    MatchOption found ((i : ℕ) (k : K) → slice_get keys i ≡ Some k → is_eq (cmp key k) ≡ false)
+    (λ number. (i : ℕ) × (k : K) × (number ≡ suc i) × (slice_get keys i ≡ Some k) × (is_eq (cmp key k) ≡ true))

@@ -1,22 +1,22 @@
 //! The table that a store writes.
 
-ghost use Rattle.std.specs.Prelude.{◌≡◌, ◌<◌, ◌++◌, ◌^◌, IfOk, OnOk, length, map};
+ghost use Rattle.std.specs.Prelude.{◌≡◌, ◌<◌, ◌+◌, ◌++◌, ◌^◌, ◌↔◌, IfOk, IsTrue, OnOk, length, map};
 ghost use Rattle.std.specs.List.{concat};
 ghost use Rattle.std.specs.Option.{option_map};
+ghost use Rattle.table_checked_pages.specs.Groups.{bytes_of, group_rows};
 ghost use Rattle.table_source_frames.specs.LineTable.{no_lines};
-ghost use Rattle.table_source_frames.specs.Runs.{runs_after};
 ghost use Rattle.table_source_frames_build.specs.KeptViews.{kept_view};
 ghost use Rattle.table_source_frames_build.specs.Lines.{IsWritten};
-ghost use Rattle.table_source_frames_build.specs.PartBytes.{AreCounts, texts_at};
-ghost use Rattle.table_source_frames_build.specs.StepViews.{HaveLocations, step_of, step_starts};
-ghost use Rattle.table_source_frames_build.specs.WholeText.{IsTextIfFits, head_of, text_of_parts};
+ghost use Rattle.table_source_frames_build.specs.PartBytes.{AreCounts, HaveNumbers, groups_by, texts_at};
+ghost use Rattle.table_source_frames_build.specs.StepViews.{HaveLocations, step_of};
+ghost use Rattle.table_source_frames_build.specs.WholeText.{IsTextIfFits, head_of, text_by};
 
 use crate::changes::changed_steps;
 use crate::kept::Kept;
 use crate::parts::Parts;
 use crate::rows::push_u64;
-use crate::runs::{count_runs, push_runs};
 use crate::step::Step;
+use crate::steps::StepRows;
 use crate::store::LineStore;
 use heap_memory::{Heap, NoMemory};
 use table_source_frames::HEAD_LEN;
@@ -32,71 +32,96 @@ fn no_lines(heap: Heap) -> Result<Vec<u8, Heap>, NoMemory>
 }
 
 impl Parts {
-    /// Adds the head of the table of these steps; `len` is the size of its texts in bytes.
-    fn push_head(&self, text: &mut Vec<u8, Heap>, steps: &[Step], len: u64) -> Result<(), NoMemory>
-        ensures { OnOk result (text.new.items ≡ text.old.items ++ head_of
-            (length (runs_after 0 (step_starts steps.now))) (length steps.now) (length self.now.locations.order.items)
-            (length self.now.files.order.items) (length self.now.texts.order.items) len) }
+    /// Whether the number of each text fits into four bytes.
+    fn has_numbers(&self) -> bool
+        ensures { IsTrue result ↔ HaveNumbers self.now }
+    {
+        u64::from(self.texts.before) + (self.texts.uses.order().len() as u64) <= u64::from(u32::MAX)
+    }
+
+    /// Adds the head of a table with so many steps, of so many bytes; `len` is the size of its texts in bytes.
+    fn push_head(
+        &self,
+        text: &mut Vec<u8, Heap>,
+        steps: u64,
+        step_bytes: u64,
+        len: u64,
+    ) -> Result<(), NoMemory>
+        ensures { OnOk result (text.new.items ≡ text.old.items ++ head_of steps step_bytes
+            (length self.now.scopes.order.items) (length self.now.files.order.items)
+            (length self.now.texts.uses.order.items) len) }
     {
         push_u64(text, 1)?;
-        push_u64(text, count_runs(steps) as u64)?;
-        push_u64(text, steps.len() as u64)?;
-        push_u64(text, self.locations.order().len() as u64)?;
+        push_u64(text, steps)?;
+        push_u64(text, step_bytes)?;
+        push_u64(text, self.scopes.order().len() as u64)?;
         push_u64(text, self.files.order().len() as u64)?;
-        push_u64(text, self.texts.order().len() as u64)?;
+        push_u64(text, self.texts.uses.order().len() as u64)?;
         push_u64(text, len)
     }
 }
 
 impl<'a> Kept<'a> {
-    /// The table of these steps with these parts; `len` is the size of its texts in bytes.
+    /// The table of these steps, in groups, with these parts; `len` is the size of its texts in bytes.
     fn table_text(
         &self,
         heap: Heap,
         steps: &[Step],
         parts: &Parts,
+        rows: &StepRows,
         len: u64,
     ) -> Result<Vec<u8, Heap>, NoMemory>
         requires counts { AreCounts (kept_view self.now) parts.now }
-        requires steps { HaveLocations (kept_view self.now) steps.now }
-        requires few { length steps.now < 2 ^ 32 }
-        requires len { len ≡ length (concat (texts_at (kept_view self.now) parts.now.texts.order.items)) }
+        requires texts { HaveNumbers parts.now }
+        requires groups { rows.now.groups.items
+            ≡ group_rows 0 (groups_by (kept_view self.now) parts.now.scopes.order.items steps.now) }
+        requires bytes { rows.now.bytes.items
+            ≡ bytes_of (groups_by (kept_view self.now) parts.now.scopes.order.items steps.now) }
+        requires len { len ≡ length (concat (texts_at (kept_view self.now) parts.now.texts.uses.order.items)) }
         requires fits { len < 2 ^ 32 }
-        ensures { IfOk result (λ text. text.items ≡ text_of_parts (kept_view self.now) steps.now
-            parts.now.locations.order.items parts.now.files.order.items parts.now.texts.order.items) }
+        ensures { IfOk result (λ text. text.items ≡ text_by (kept_view self.now) steps.now parts.now) }
     {
         let mut text = Vec::new(heap);
-        parts.push_head(&mut text, steps, len)?;
-        push_runs(&mut text, steps)?;
-        self.push_steps(&mut text, parts, steps)?;
-        self.push_locations(&mut text, parts, parts.locations.order())?;
+        parts.push_head(&mut text, steps.len() as u64, rows.bytes.len() as u64, len)?;
+        text.extend_from_slice(&rows.groups)?;
+        text.extend_from_slice(&rows.bytes)?;
+        self.push_scope_rows(&mut text, parts, parts.scopes.order())?;
         self.push_files(&mut text, parts, parts.files.order())?;
-        self.push_text_rows(&mut text, parts.texts.order())?;
-        self.push_texts(&mut text, parts.texts.order())?;
+        self.push_text_rows(&mut text, parts.texts.uses.order())?;
+        self.push_texts(&mut text, parts.texts.uses.order())?;
         Ok(text)
     }
 
-    /// The table of these steps; `None` if it has more than `room` bytes, or if one of its numbers does not fit into
-    /// four bytes.
+    /// The table of these steps, in a slice with these strings; `None` if it has more than `room` bytes, or if one of
+    /// its numbers does not fit into four bytes.
     fn table_within(
         &self,
         heap: Heap,
+        strings: &'a [u8],
         steps: &[Step],
         room: u64,
     ) -> Result<Option<Vec<u8, Heap>>, NoMemory>
-        requires { HaveLocations (kept_view self.now) steps.now }
-        ensures { IfOk result (λ text. IsTextIfFits room (map (step_of (kept_view self.now)) steps.now)
+        requires few { length strings.now < 2 ^ 32 }
+        requires steps { HaveLocations (kept_view self.now) steps.now }
+        ensures { IfOk result (λ text. IsTextIfFits room strings.now (map (step_of (kept_view self.now)) steps.now)
             (option_map (λ t. t.items) text)) }
     {
         if steps.len() as u64 > u64::from(u32::MAX) {
             return Ok(None);
         }
-        let parts = self.parts(heap.share(), steps)?;
+        let parts = self.parts(heap.share(), strings, steps)?;
+        if !parts.has_numbers() {
+            return Ok(None);
+        }
         let most = room.min(u64::from(u32::MAX));
-        let Some(len) = self.texts_len(parts.texts.order(), most) else {
+        let Some(len) = self.texts_len(parts.texts.uses.order(), most) else {
             return Ok(None);
         };
-        let text = self.table_text(heap, steps, &parts, len)?;
+        let rows = self.step_rows(heap.share(), &parts, steps)?;
+        if rows.bytes.len() as u64 > u64::from(u32::MAX) {
+            return Ok(None);
+        }
+        let text = self.table_text(heap, steps, &parts, &rows, len)?;
         if text.len() as u64 > room {
             return Ok(None);
         }
@@ -105,16 +130,18 @@ impl<'a> Kept<'a> {
 }
 
 impl<'a> LineStore<'a> {
-    /// The table of the fewest steps that state the added frames, if it fits into `room` bytes; else the head of a
-    /// table without lines. The time is that of a sort of the addresses; the memory is that of the table, of the steps
-    /// and of 8 bytes for each text, file and location.
-    pub fn finish(self, heap: Heap, room: u64) -> Result<Vec<u8, Heap>, NoMemory>
-        ensures { IfOk result (λ bytes. IsWritten room self.entry.taken bytes.items) }
+    /// The table of the fewest steps that state the added frames, in a slice with these strings, if it fits into `room`
+    /// bytes; else the head of a table without lines. The time is that of a sort of the addresses and of two searches
+    /// for each string; the memory is that of the table, of its steps a second time, of 12 bytes for each text, and of
+    /// 8 for each file and scope.
+    pub fn finish(self, heap: Heap, strings: &'a [u8], room: u64) -> Result<Vec<u8, Heap>, NoMemory>
+        requires { length strings.now < 2 ^ 32 }
+        ensures { IfOk result (λ bytes. IsWritten room strings.now self.entry.taken bytes.items) }
     {
         let LineStore { kept, mut steps } = self;
         steps.sort_unstable_by_key(|step| step.start);
         let changed = changed_steps(heap.share(), &steps)?;
-        match kept.table_within(heap.share(), &changed, room)? {
+        match kept.table_within(heap.share(), strings, &changed, room)? {
             Some(bytes) => Ok(bytes),
             None => no_lines(heap),
         }

@@ -1,4 +1,4 @@
-//! The keys of texts, files and locations.
+//! The keys of texts, files, scopes and locations.
 
 ghost use Rattle.std.specs.Prelude.{◌≡◌};
 ghost use Rattle.table_source_frames_build.specs.Marks.{mark_of};
@@ -45,14 +45,19 @@ pub(crate) struct FileKey {
     pub name: u32,
 }
 
-/// A location: the number of its caller, the location that it is inlined into (0: none), which is smaller than its own
-/// number; the number of its function's name (0: none); its line and column; the number of its file (0: none). The
-/// caller is first, so that locations which are added one after another are near each other in the order.
+/// A scope: the number of the location that it is inlined into, the number of its function's name, and that of its file
+/// (0: none). The caller is first, so that scopes which are added one after another are near each other in the order.
 #[derive(Clone, Copy, PartialEq, Eq, PartialOrd, Ord)]
-pub(crate) struct LocationKey {
+pub(crate) struct ScopeKey {
     pub caller: u32,
     pub name: u32,
+    pub file: u32,
+}
+
+/// A location: the number of its scope, whose caller has a smaller number than the location; and its line and column.
+#[derive(Clone, Copy, PartialEq, Eq, PartialOrd, Ord)]
+pub(crate) struct LocationKey {
+    pub scope: u32,
     pub line: u32,
     pub column: u32,
-    pub file: u32,
 }

@@ -4,6 +4,7 @@ ghost use Rattle.std.specs.Prelude.{◌<◌, ◌^◌, ℕ, List, All, Contains};
 ghost use Rattle.dwarf_source_frames.specs.AddressFrames.{AreFramesOf};
 ghost use Rattle.dwarf_frame_changes.specs.Given.{AreTurnsOf, TurnRecord};
 ghost use Rattle.dwarf_frame_changes.specs.Turns.{IsTurn};
+ghost use Rattle.macho_symbols.specs.Symbols.{strings_of};
 ghost use Rattle.table_source_frames.specs.LineTable.{IsLineTable, room_of};
 ghost use Rattle.table_source_frames.specs.Steps.{AreFrameSteps, Stays, StepRecord, starts_of};
 ghost use Rattle.table_source_frames_build.specs.Lines.{AreLeastSteps, IsWritten};
@@ -44,7 +45,7 @@ pub fn steps_by_turns()
 /// A store that accepted the turns of an image writes the line table of the image.
 pub fn table_by_turns()
     ensures { (image : List ℕ) (turns : List TurnRecord) (bytes : List ℕ) → AreTurnsOf image turns
-        → IsWritten (room_of image) (steps_of_turns turns) bytes → IsLineTable image bytes }
+        → IsWritten (room_of image) (strings_of image) (steps_of_turns turns) bytes → IsLineTable image bytes }
 {
     steps_by_turns();
 }

@@ -9,6 +9,7 @@ use crate::store::LineStore;
 use dwarf_frame_changes::push_turns;
 use heap_memory::{Heap, NoMemory};
 use macho_image::Image;
+use macho_symbols::strings_of;
 use table_source_frames::HEAD_LEN;
 
 /// The largest size in bytes of the table of an image.
@@ -21,8 +22,9 @@ fn room_for(image: &Image) -> u64
 }
 
 /// The line table of an image: the table of its steps, if it fits into four times the bytes of the image, and else one
-/// without lines. The time is that of [`push_turns`] and of a sort of the turns; the memory is that of the texts, files
-/// and locations of frames, each stored once, of 16 bytes for each turn, and of the table.
+/// without lines. The time is that of [`push_turns`], of a sort of the turns and of two searches for each string of the
+/// image; the memory is that of the texts, files, scopes and locations of frames, each stored once, of 16 bytes for
+/// each turn, and of the table, with its steps twice.
 pub fn line_table(heap: Heap, image: &Image) -> Result<Vec<u8, Heap>, NoMemory>
     ensures { IfOk result (λ bytes. IsLineTable image.now bytes.items) }
 {
@@ -30,5 +32,5 @@ pub fn line_table(heap: Heap, image: &Image) -> Result<Vec<u8, Heap>, NoMemory>
     let store = LineStore::new(heap.share());
     let mut sink = StoreSink { store };
     push_turns(heap.share(), image, &mut sink)?;
-    sink.store.finish(heap, room_for(image))
+    sink.store.finish(heap, strings_of(image), room_for(image))
 }

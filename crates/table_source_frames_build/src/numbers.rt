@@ -2,7 +2,7 @@
 
 ghost use Rattle.std.specs.Prelude.{◌≡◌, ◌-◌, [], IfOk, OnErr, Some, length, slice_get};
 ghost use Rattle.table_source_frames_build.specs.Numbering.{IsNumber};
-ghost use Rattle.table_source_frames_build.specs.Numbers.{IsNumbered};
+ghost use Rattle.table_source_frames_build.specs.Numbers.{IsFoundIn, IsNumbered};
 
 use heap_memory::{Heap, NoMemory};
 use std::collections::BTreeMap;
@@ -55,6 +55,13 @@ impl<K: Ord + Copy + Drop> Numbers<K> {
             return Err(NoMemory::from(refused));
         }
         Ok(number)
+    }
+
+    /// The number that a key has; `None` if it has none.
+    pub fn find(&self, key: &K) -> Option<u32>
+        ensures { IsFoundIn K.cmp self.now key.now result }
+    {
+        self.by_key.get(key).copied()
     }
 
     /// The number of keys.

@@ -1,20 +1,17 @@
 //! The rows of a table.
 
-ghost use Rattle.std.specs.Prelude.{◌≡◌, ◌++◌, OnOk, flat_map, length};
+ghost use Rattle.std.specs.Prelude.{◌≡◌, ◌<◌, ◌+◌, ◌++◌, ◌^◌, OnOk, length};
 ghost use Rattle.std.specs.Int.{w32, w64, to_be_bytes};
-ghost use Rattle.table_source_frames_build.specs.Kept.{file_key_at, location_key_at};
+ghost use Rattle.table_source_frames_build.specs.Kept.{file_key_at, scope_key_at};
 ghost use Rattle.table_source_frames_build.specs.KeptViews.{kept_view};
 ghost use Rattle.table_source_frames_build.specs.Numbering.{IsNumber};
-ghost use Rattle.table_source_frames_build.specs.PartBytes.{AreCounts, file_row, file_rows, location_row};
-ghost use Rattle.table_source_frames_build.specs.PartBytes.{location_rows, step_row};
+ghost use Rattle.table_source_frames_build.specs.PartBytes.{AreCounts, HaveNumbers, file_row, file_rows, scope_row};
+ghost use Rattle.table_source_frames_build.specs.PartBytes.{scope_rows, text_numbers};
 ghost use Rattle.table_source_frames_build.specs.PartNumbers.{AreNumbers};
-ghost use Rattle.table_source_frames_build.specs.StepViews.{HaveLocations};
 
 use crate::kept::Kept;
 use crate::parts::Parts;
-use crate::step::Step;
 use heap_memory::{Heap, NoMemory};
-use table_source_frames::halves::lower_half;
 
 /// Adds a number as eight bytes.
 pub(crate) fn push_u64(text: &mut Vec<u8, Heap>, number: u64) -> Result<(), NoMemory>
@@ -33,59 +30,44 @@ pub(crate) fn push_u32(text: &mut Vec<u8, Heap>, number: u32) -> Result<(), NoMe
 }
 
 impl<'a> Kept<'a> {
-    /// Adds the rows of these steps.
-    pub fn push_steps(
-        &self,
-        text: &mut Vec<u8, Heap>,
-        parts: &Parts,
-        steps: &[Step],
-    ) -> Result<(), NoMemory>
-        requires counts { AreCounts (kept_view self.now) parts.now }
-        requires steps { HaveLocations (kept_view self.now) steps.now }
-        ensures { OnOk result (text.new.items
-            ≡ text.old.items ++ flat_map (step_row parts.now.locations.order.items) steps.now) }
-    {
-        for step in steps {
-            push_u32(text, lower_half(step.start))?;
-            push_u32(text, parts.locations.number_of(step.location))?;
-        }
-        Ok(())
-    }
-
-    /// Adds the row of a location.
-    fn push_location(
+    /// Adds the row of a scope.
+    fn push_scope(
         &self,
         text: &mut Vec<u8, Heap>,
         parts: &Parts,
         number: u32,
     ) -> Result<(), NoMemory>
         requires counts { AreCounts (kept_view self.now) parts.now }
-        requires number { IsNumber (length (kept_view self.now).locations) number }
-        ensures { OnOk result (text.new.items ≡ text.old.items ++ location_row parts.now.locations.order.items
-            parts.now.files.order.items parts.now.texts.order.items (location_key_at (kept_view self.now) number)) }
+        requires texts { HaveNumbers parts.now }
+        requires number { IsNumber (length (kept_view self.now).scopes) number }
+        ensures { OnOk result (text.new.items ≡ text.old.items ++ scope_row (kept_view self.now)
+            parts.now.scopes.order.items parts.now.files.order.items (text_numbers parts.now)
+            (scope_key_at (kept_view self.now) number)) }
     {
-        let key = self.location_key_of(number);
+        let key = self.scope_key_of(number);
+        let call = self.location_key_of(key.caller);
         push_u32(text, parts.texts.number_of(key.name))?;
         push_u32(text, parts.files.number_of(key.file))?;
-        push_u32(text, key.line)?;
-        push_u32(text, key.column)?;
-        push_u32(text, parts.locations.number_of(key.caller))
+        push_u32(text, call.line)?;
+        push_u32(text, call.column)?;
+        push_u32(text, parts.scopes.number_of(call.scope))
     }
 
-    /// Adds the rows of these locations.
-    pub fn push_locations(
+    /// Adds the rows of these scopes.
+    pub fn push_scope_rows(
         &self,
         text: &mut Vec<u8, Heap>,
         parts: &Parts,
         numbers: &[u32],
     ) -> Result<(), NoMemory>
         requires counts { AreCounts (kept_view self.now) parts.now }
-        requires numbers { AreNumbers (length (kept_view self.now).locations) numbers.now }
-        ensures { OnOk result (text.new.items ≡ text.old.items ++ location_rows (kept_view self.now)
-            parts.now.locations.order.items parts.now.files.order.items parts.now.texts.order.items numbers.now) }
+        requires texts { HaveNumbers parts.now }
+        requires numbers { AreNumbers (length (kept_view self.now).scopes) numbers.now }
+        ensures { OnOk result (text.new.items ≡ text.old.items ++ scope_rows (kept_view self.now)
+            parts.now.scopes.order.items parts.now.files.order.items (text_numbers parts.now) numbers.now) }
     {
         for number in numbers {
-            self.push_location(text, parts, *number)?;
+            self.push_scope(text, parts, *number)?;
         }
         Ok(())
     }
@@ -98,9 +80,10 @@ impl<'a> Kept<'a> {
         number: u32,
     ) -> Result<(), NoMemory>
         requires counts { AreCounts (kept_view self.now) parts.now }
+        requires texts { HaveNumbers parts.now }
         requires number { IsNumber (length (kept_view self.now).files) number }
-        ensures { OnOk result (text.new.items ≡ text.old.items
-            ++ file_row parts.now.texts.order.items (file_key_at (kept_view self.now) number)) }
+        ensures { OnOk result (text.new.items
+            ≡ text.old.items ++ file_row (text_numbers parts.now) (file_key_at (kept_view self.now) number)) }
     {
         let key = self.file_key_of(number);
         push_u32(text, parts.texts.number_of(key.base))?;
@@ -116,9 +99,10 @@ impl<'a> Kept<'a> {
         numbers: &[u32],
     ) -> Result<(), NoMemory>
         requires counts { AreCounts (kept_view self.now) parts.now }
+        requires texts { HaveNumbers parts.now }
         requires numbers { AreNumbers (length (kept_view self.now).files) numbers.now }
         ensures { OnOk result (text.new.items
-            ≡ text.old.items ++ file_rows (kept_view self.now) parts.now.texts.order.items numbers.now) }
+            ≡ text.old.items ++ file_rows (kept_view self.now) (text_numbers parts.now) numbers.now) }
     {
         for number in numbers {
             self.push_file(text, parts, *number)?;

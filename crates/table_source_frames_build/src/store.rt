@@ -3,14 +3,14 @@
 ghost use Rattle.std.specs.Prelude.{◌≡◌, ◌∷◌, ◌++◌, ℕ, IfOk, List, OnErr, OnOk, Option, []};
 
 use crate::kept::Kept;
-use crate::keys::LocationKey;
+use crate::keys::ScopeKey;
 use crate::step::Step;
 use dwarf_lines::PathParts;
 use heap_memory::{Heap, NoMemory};
 use std::marker::Model;
 
 /// The frames of addresses. A contract sees the frames of each address, in the order of arrival, and the numbered
-/// texts, files and locations.
+/// texts, files, scopes and locations.
 #[derive(Drop)]
 pub struct LineStore<'a> {
     pub(crate) kept: Kept<'a>,
@@ -45,7 +45,7 @@ impl<'a> LineStore<'a> {
     pub fn new(heap: Heap) -> LineStore<'a>
         ensures { result ≡ record {
           taken = [];
-          kept = record { texts = []; files = []; locations = [] };
+          kept = record { texts = []; files = []; scopes = []; locations = [] };
         } }
     {
         LineStore {
@@ -79,8 +79,8 @@ impl<'a> LineStore<'a> {
         0
     }
 
-    /// The number of a frame and of those that it is inlined into. The time is that of a search, and a new location
-    /// needs memory.
+    /// The number of a frame and of those that it is inlined into. The time is that of two searches, and a new scope or
+    /// location needs memory.
     pub fn frames(
         &mut self,
         name: u32,
@@ -99,13 +99,12 @@ impl<'a> LineStore<'a> {
         ensures tells { KeepsNumbers self.old.kept self.new.kept }
         ensures taken { self.new.taken ≡ self.old.taken }
     {
-        self.kept.location_number(LocationKey {
+        let scope = ScopeKey {
+            caller: callers,
             name,
             file: path,
-            line,
-            column,
-            caller: callers,
-        })
+        };
+        self.kept.location_number(scope, line, column)
     }
 
     /// Adds an address and the number of its frames. Each address is to be added once. It needs 16 bytes of memory.

@@ -1,24 +1,11 @@
 -- The head that any bytes begin with.
-use Rattle.std.proofs.Common.{◌≡◌, ℕ, ◌+◌, ◌*◌, ◌-◌, ◌≤◌, List, length, take, drop, ap, ◌∙◌, arith}
+use Rattle.std.proofs.Common.{◌≡◌, ℕ, ◌+◌, ◌*◌, ◌≤◌, List, length, take, drop, ap, ◌∙◌, arith}
 use Rattle.std.specs.Int.{w64, from_be_bytes}
-use Rattle.std.proofs.lemmas.List.{drop-drop, drop-take, take-take}
+use Rattle.table_checked_pages.proofs.PlaceLemmas.{part_read}
 use Rattle.table_symbols.specs.Opened.{AreHeaded, HasCounts, u64_at}
 use Rattle.table_symbols.specs.declared.head.Head.{Head}
 
-front_part : (at len n : ℕ) (all : List ℕ) → at + len ≤ n → take len (drop at (take n all)) ≡ take len (drop at all)
-front_part at len n all within =
-    let split : n ≡ at + (n - at) = omega (arith, within) in
-    ap (λ k. take len (drop at (take k all))) split ∙ ap (take len) (drop-take at (n - at) all)
-    ∙ take-take len (n - at) (drop at all) (omega (arith, within))
-
--- a part of bytes that were read from an offset on
-pub part_read : (at len n offset : ℕ) (all bytes : List ℕ) → at + len ≤ n → bytes ≡ take n (drop offset all)
-    → take len (drop at bytes) ≡ take len (drop (offset + at) all)
-part_read at len n offset all bytes within came =
-    ap (λ b. take len (drop at b)) came ∙ front_part at len n (drop offset all) within
-    ∙ ap (take len) (drop-drop at offset all)
-
--- a number in them
+-- a number in bytes that were read
 pub u64_read : (at n offset : ℕ) (all bytes : List ℕ) → at + 8 ≤ n → bytes ≡ take n (drop offset all)
     → u64_at bytes at ≡ u64_at all (offset + at)
 u64_read at n offset all bytes within came = ap (from_be_bytes w64) (part_read at 8 n offset all bytes within came)

@@ -4,8 +4,9 @@ use Rattle.std.proofs.Common.{get_or, refl, sym, ap, ◌∙◌, subst, arith, le
 use Rattle.std.proofs.Common.{inl, inr, nat_le}
 use Rattle.std.specs.Prelude.{slice_index_or, All, Decides, Option, None}
 use Rattle.std.specs.Int.{w32, w64, from_be_bytes}
-use Rattle.std.proofs.lemmas.List.{append-nil, get_or_default, take_at, drop_at, drop-drop, drop-take, take-take}
+use Rattle.std.proofs.lemmas.List.{append-nil, get_or_default, take_at, drop_at, drop-drop}
 use Rattle.table_checked_pages.specs.Standing.{Stands}
+use Rattle.table_checked_pages.proofs.PlaceLemmas.{part_stands}
 use Rattle.std.proofs.lemmas.Nat.{from_be_bytes-to_be_bytes_4, from_be_bytes-to_be_bytes_8}
 use Rattle.macho_symbols.specs.Rows.{IsRowFor, IsLastNotAbove, AreAbove}
 use Rattle.table_symbols.specs.Rows.{row_bytes, rows_bytes, IsRow, AreRows}
@@ -176,16 +177,6 @@ start_decides rows address place row stands = (
     here d = ap (λ (r : Row). r.start) (get_or_from_slice_get rows place row d stands)
 
 -- ---- where the rows stand
-
--- a part of bytes that stand among others
-pub part_stands : (all part : List ℕ) (first m n : ℕ) → Stands all first part → m + n ≤ length part → take n (drop (first + m) all) ≡ take n (drop m part)
-part_stands all part first m n stands within =
-    let rest : ℕ = length part - m in
-    let whole : length part ≡ m + rest = omega (arith, within) in
-    let here : drop m part ≡ take rest (drop (first + m) all) =
-    ap (drop m) (sym stands.1) ∙ ap (λ k. drop m (take k (drop first all))) whole ∙ drop-take m rest (drop first all)
-    ∙ ap (take rest) (drop-drop m first all) in
-    sym (take-take n rest (drop (first + m) all) (omega (arith, within))) ∙ ap (take n) (sym here)
 
 -- the row that bytes are which were read
 pub row_read : (all bytes : List ℕ) (rows : List Row) (first index n : ℕ) (row d : Row) → AreRows rows

@@ -159,21 +159,20 @@ strings_stand t n fits is =
       length-rows_bytes t.rows,
     )))
 
-pub lines_stand : (t : TableParts) (n : ℕ) → FitsTable t → n
-    ≡ 48 + 32 * length t.names + 21 * length t.rows + length t.strings → IsRestFrom (table_bytes t) n t.lines
-lines_stand t n fits is =
+-- the strings and the lines are the rest of a table
+pub strings_rest : (t : TableParts) (n : ℕ) → FitsTable t → n ≡ 48 + 32 * length t.names + 21 * length t.rows
+    → IsRestFrom (table_bytes t) n (t.strings ++ t.lines)
+strings_rest t n fits is =
     let names : List ℕ = flat_map section_bytes t.names in
     let front : List ℕ = (head_bytes t ++ names) ++ rows_bytes t.rows in
-    let long : length (front ++ t.strings) ≡ n =
+    let long : length front ≡ n =
     omega (
       arith,
       is,
-      length-append front t.strings,
       length-append (head_bytes t ++ names) (rows_bytes t.rows),
       length-append (head_bytes t) names,
       length-head t,
       length-names t.names fits.names,
       length-rows_bytes t.rows,
     ) in
-    let same : (front ++ t.strings) ++ t.lines ≡ table_bytes t = append_assoc front t.strings t.lines ∙ parts_after t in
-    (omega (arith, is, length-table t fits), ap (drop n) (sym same) ∙ drop_at (front ++ t.strings) t.lines n long)
+    (omega (arith, is, length-table t fits), ap (drop n) (sym (parts_after t)) ∙ drop_at front (t.strings ++ t.lines) n long)

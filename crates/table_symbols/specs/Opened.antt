@@ -31,7 +31,10 @@ pub record AreHeaded (all : List ℕ) : Type 0 where
   pub size : length all
       ≡ 48 + 32 * u64_at all 16 + 21 * u64_at all 24 + u64_at all 32 + u64_at all 40
 
--- the offset of the lines in these bytes, by their head
+-- the offset of the strings in these bytes, by their head, and that of the lines after them
+abbrev pub strings_at : List ℕ → ℕ
+strings_at all = 48 + 32 * u64_at all 16 + 21 * u64_at all 24
+
 abbrev pub lines_at : List ℕ → ℕ
 lines_at all = 48 + 32 * u64_at all 16 + 21 * u64_at all 24 + u64_at all 32
 

@@ -40,5 +40,6 @@ mod text;
 
 pub use found::OwnedFound;
 pub use making::TableText;
+pub use names::name_from;
 pub use nearest::NearestSymbol;
 pub use table::Table;

@@ -1,11 +1,10 @@
 //! Names among the strings of a stored table.
 
-ghost use Rattle.std.specs.Prelude.{◌≡◌, ◌+◌, ◌<◌, ◌≤◌, ◌^◌, ◌==◌, ◌++◌, ℕ, List, IfErr, OnOk, length, drop};
+ghost use Rattle.std.specs.Prelude.{◌≡◌, ◌+◌, ◌<◌, ◌≤◌, ◌^◌, ◌==◌, ◌++◌, ℕ, List, IfErr, OnOk, length, take, drop};
 ghost use Rattle.std.specs.List.{before_first};
 ghost use Rattle.table_checked_pages.specs.Pages.{AreStored};
 ghost use Rattle.table_checked_pages.specs.Views.{ArePagesOf, KeepsPages, claim_view};
 ghost use Rattle.table_checked_pages.specs.Reading.{ReadsStored};
-ghost use Rattle.table_checked_pages.specs.Standing.{Stands};
 
 use byte_device::Placed;
 use heap_memory::Heap;
@@ -28,7 +27,7 @@ fn push_bytes(name: &mut Vec<u8, Heap>, bytes: &[u8]) -> Result<(), CheckFault>
 
 /// The name at an offset of the strings, which are the `size` bytes of the table from `first` on. It ends before the
 /// first NUL, or with the strings; past their end it is empty. The errors are those of [`CheckFault`].
-pub(crate) fn name_from<P: Placed>(
+pub fn name_from<P: Placed>(
     heap: Heap,
     device: &mut P,
     table: &mut Pages,
@@ -40,8 +39,8 @@ pub(crate) fn name_from<P: Placed>(
     ensures claim { table.new.claim ≡ table.old.claim }
     ensures keeps { KeepsPages P.whole device.old table.old table.new }
     ensures read { ReadsStored P.whole P.failures device.old device.new result
-        (λ text name. (all strings : List ℕ) → ArePagesOf table.old text all → Stands all first strings
-        → length strings ≡ size → name.items ≡ before_first (λ b. b == 0) (drop offset strings))
+        (λ text name. (all : List ℕ) → ArePagesOf table.old text all
+        → name.items ≡ before_first (λ b. b == 0) (drop offset (take size (drop first all))))
         (λ text. (all : List ℕ) → AreStored text (claim_view table.old.claim) all → ArePagesOf table.old text all
         → first + size ≤ length all → ⊥) }
 {

@@ -37,7 +37,7 @@ impl Table {
     }
 
     /// The offset of the first byte of the strings in the table.
-    fn first_string(&self) -> u64
+    pub(crate) fn first_string(&self) -> u64
         ensures { result ≡ 48 + 32 * self.now.head.sections + 21 * self.now.head.rows }
     {
         self.first_row() + ROW_LEN as u64 * self.head.rows

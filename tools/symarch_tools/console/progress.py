@@ -7,7 +7,7 @@ import time
 from dataclasses import dataclass
 from typing import Callable, Union
 
-from .widths import columns_of
+from .streams import columns_of
 
 # The line comes after so many seconds, and is written anew as often. A stage that goes on for so long has a speed.
 LEAST, PAUSE, LEAST_OF_STAGE = 2.0, 0.2, 1.0

@@ -6,13 +6,18 @@ import errno
 import os
 import re
 import sys
-from typing import BinaryIO, Iterator, List
+from typing import TYPE_CHECKING, BinaryIO, Iterator, List, Optional, TextIO
 
 from .escapes import line_shown
 from .faults import about
 
+if TYPE_CHECKING:
+    import argparse
+
 # What was said that is wrong, as --json prints it.
 noted: List[str] = []
+# The columns of what is no terminal, or of one that does not state them.
+COLUMNS = 80
 # What JSON may escape and UTF-8 does not have, except for what stands for bytes that were no UTF-8.
 LONE_SURROGATE = re.compile("[\ud800-\udc7f\udd00-\udfff]")
 
@@ -53,6 +58,31 @@ def standard_input() -> bytes:
         if sys.stdin is None:
             raise OSError(errno.EBADF, "closed")
         return sys.stdin.buffer.read()
+
+
+def columns_of(stream: Optional[TextIO]) -> int:
+    """The columns of the terminal that a standard stream is; None is a closed one."""
+    if stream is None:
+        return COLUMNS
+    with contextlib.suppress(OSError, ValueError):
+        return os.get_terminal_size(stream.fileno()).columns or COLUMNS
+    return COLUMNS
+
+
+def help_columns() -> int:
+    """The columns of a help, as `shutil.get_terminal_size` finds them: by COLUMNS, or by standard output."""
+    with contextlib.suppress(KeyError, ValueError):
+        wanted = int(os.environ["COLUMNS"])
+        if wanted > 0:
+            return wanted
+    return columns_of(sys.stdout)
+
+
+def help_form(prog: str) -> argparse.HelpFormatter:
+    """The form of a help. argparse makes one for each argument, and would import other modules to find the width."""
+    import argparse
+
+    return argparse.RawDescriptionHelpFormatter(prog, width=help_columns() - 2)
 
 
 def write(descriptor: int, data: bytes) -> None:

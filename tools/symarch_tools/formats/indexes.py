@@ -1,7 +1,7 @@
 """Indexes of archives: of each record its entry in the summary, whether it is a companion's, where it stands, and
 where the table of its slice is stored in the index. An index is read from its end: its tables are not read for that,
 and are copied from one index into another. docs/FILES.md has the bytes. One of another kind does not count: of a
-release before 2.4, without tables, or with tables in pages of another length."""
+release before 2.4, without tables, or with entries that are not stored in pages."""
 import hashlib
 import io
 import os
@@ -14,24 +14,27 @@ from .contents import head_of, record_size, words_of
 
 INDEX, EARLIER_INDEX = b"MSYMIDX2", b"MSYMIDX1"
 ROW = struct.Struct(f">{len(ADMISSION) + ENTRY}sBQQQQ{DIGEST}s")
-# How long the end record of an archive is, and that of an index, which has the SHA-256 of the entries.
+# How long the end record of an archive is, and that of an index, which also has the number of retirements, the length
+# of the archive and the root of the entries; and how long it was when it had the SHA-256 of these instead.
 TAIL = len(END) + LENGTH
-INDEX_TAIL = TAIL + DIGEST
+INDEX_TAIL = TAIL + 2 * LENGTH + DIGEST
+EARLIER_TAIL = TAIL + DIGEST
+INDEX_TAILS = INDEX_TAIL, EARLIER_TAIL
 # How many bytes an entry has in an index without tables.
 PLACED = len(ADMISSION) + ENTRY + 1 + 2 * LENGTH
 # How many bytes of an admission stand before its slice.
 HEAD = len(ADMISSION) + KEY + LENGTH
 # mach-o/loader.h: the file type of a companion, and where it stands.
 MH_DSYM, FILETYPE = b"\x0a\0\0\0", 12
-# How many bytes a page of a table has, and had before 2.4 was released.
-PAGE, EARLIER_PAGE = 1 << 12, 1 << 14
+# How many bytes a page of a table has.
+PAGE = 1 << 12
 # The root of no bytes, which a slice without a table has; and what a retirement has in its place.
 NO_TABLE, NO_ROOT = hashlib.sha256().digest(), bytes(DIGEST)
 OTHER_KIND = "is an index of another kind"
 
 
 class OtherKind(Malformed):
-    """An index of a release before 2.4; or without tables, or with others' pages: no release wrote one."""
+    """An index of a release before 2.4; or without tables or pages of entries: no release wrote one."""
 
 
 class IndexRow(NamedTuple):
@@ -63,8 +66,8 @@ class IndexRow(NamedTuple):
         return stored_size(self.size)
 
 
-def pages_in(size: int, page: int = PAGE) -> int:
-    return -(-size // page)
+def pages_in(size: int) -> int:
+    return -(-size // PAGE)
 
 
 def level_sizes(size: int) -> List[int]:
@@ -80,9 +83,13 @@ def stored_size(size: int) -> int:
     return sum(level_sizes(size))
 
 
-def earlier_size(size: int) -> int:
-    """How many it took before 2.4 was released."""
-    return pages_in(size, EARLIER_PAGE) * DIGEST + size
+def vouching(data: bytes) -> Tuple[bytes, bytes]:
+    """The digests that are stored before bytes, and their root."""
+    digests = b""
+    while len(data) > PAGE:
+        data = b"".join(hashlib.sha256(data[at : at + PAGE]).digest() for at in range(0, len(data), PAGE))
+        digests = data + digests
+    return digests, hashlib.sha256(data).digest()
 
 
 @dataclass(eq=False)
@@ -91,8 +98,8 @@ class Index:
 
     entries: bytes
     path: bytes = b""
-    # The SHA-256 of the entries, once it is known.
-    known_digest: bytes = b""
+    # The digests that are stored before the entries, and their root, once they are known.
+    known: Optional[Tuple[bytes, bytes]] = None
 
     def count(self) -> int:
         return len(self.entries) // ROW.size
@@ -128,14 +135,23 @@ class Index:
         """The rows of slices that have no table."""
         return [row for row in self.rows() if row.is_slice() and not row.size]
 
-    def digest(self) -> bytes:
-        """The SHA-256 of its entries."""
-        self.known_digest = self.known_digest or hashlib.sha256(self.entries).digest()
-        return self.known_digest
+    def vouching(self) -> Tuple[bytes, bytes]:
+        """The digests that are stored before its entries, and their root."""
+        self.known = self.known or vouching(self.entries)
+        return self.known
+
+    def stored(self) -> bytes:
+        """Its entries as they are stored."""
+        return self.vouching()[0] + self.entries
+
+    def root(self) -> bytes:
+        return self.vouching()[1]
 
     def end(self) -> bytes:
         """Its end record."""
-        return END + self.count().to_bytes(LENGTH, "big") + self.digest()
+        retired = sum(entry[:1] == RETIREMENT for entry, *_ in ROW.iter_unpack(self.entries))
+        numbers = self.count(), retired, self.size()
+        return END + b"".join(number.to_bytes(LENGTH, "big") for number in numbers) + self.root()
 
     def is_in(self, file: BinaryIO) -> bool:
         """Whether a file that is no index, or another one, still has its end record, or its entries except for their
@@ -143,7 +159,10 @@ class Index:
         size, end = file.seek(0, os.SEEK_END), self.end()
         if last_of(file, size, len(end)) == end:
             return True
-        entries = last_of(file, max(size - len(end), 0), len(self.entries))
+        return any(self.has_records(last_of(file, max(size - it, 0), len(self.entries))) for it in INDEX_TAILS)
+
+    def has_records(self, entries: bytes) -> bool:
+        """Whether these are its entries except for their tables."""
         return len(entries) == len(self.entries) and all(
             one[:4] == other[:4] for one, other in zip(ROW.iter_unpack(entries), ROW.iter_unpack(self.entries))
         )
@@ -162,22 +181,21 @@ def index_of(rows: Iterable[IndexRow]) -> Index:
 
 def index_in(file: BinaryIO, path: bytes = b"") -> Index:
     """The index that a file is, by its first bytes and from its end: its entries are those of which the end record has
-    the SHA-256, and its tables fill what stands before them."""
+    the root, and its tables fill what stands before them."""
     file.seek(0)
     begins, size = file.read(MAGIC), file.seek(0, os.SEEK_END)
-    if begins == EARLIER_INDEX or begins == INDEX and is_without_tables(file, size):
-        raise OtherKind(OTHER_KIND)
     end = last_of(file, size, INDEX_TAIL)
     count = int.from_bytes(end[len(END) : TAIL], "big")
-    if begins != INDEX or end[: len(END)] != END or MAGIC + count * ROW.size + INDEX_TAIL > size:
-        raise Malformed("is no index")
-    index = Index(last_of(file, size - INDEX_TAIL, count * ROW.size), path)
-    tables, sizes = size - MAGIC - len(index.entries) - len(end), [row.size for row in index.rows()]
-    if index.end() != end:
-        raise Malformed("is no index")
-    if tables != sum(map(stored_size, sizes)):
-        raise OtherKind(OTHER_KIND) if tables == sum(map(earlier_size, sizes)) else Malformed("is no index")
-    return index
+    at = size - INDEX_TAIL - stored_size(count * ROW.size)
+    if begins == INDEX and end[: len(END)] == END and at >= MAGIC:
+        stored = last_of(file, size - INDEX_TAIL, size - INDEX_TAIL - at)
+        index = Index(stored[len(stored) - count * ROW.size :], path)
+        tables = sum(stored_size(row.size) for row in index.rows())
+        if index.stored() == stored and index.end() == end and MAGIC + tables == at:
+            return index
+    if begins == EARLIER_INDEX or begins == INDEX and (is_without_tables(file, size) or is_without_pages(file, size)):
+        raise OtherKind(OTHER_KIND)
+    raise Malformed("is no index")
 
 
 def is_of_earlier_release(path: bytes) -> bool:
@@ -190,6 +208,15 @@ def is_without_tables(file: BinaryIO, size: int) -> bool:
     """Whether an index ends as one without tables, which has no SHA-256 of its entries."""
     count = max(size - MAGIC - TAIL, 0) // PLACED
     return last_of(file, size, TAIL) == END + count.to_bytes(LENGTH, "big")
+
+
+def is_without_pages(file: BinaryIO, size: int) -> bool:
+    """Whether an index ends as one whose entries are not stored in pages: its end record has their SHA-256."""
+    end = last_of(file, size, EARLIER_TAIL)
+    count = int.from_bytes(end[len(END) : TAIL], "big")
+    if end[: len(END)] != END or MAGIC + count * ROW.size + EARLIER_TAIL > size:
+        return False
+    return hashlib.sha256(last_of(file, size - EARLIER_TAIL, count * ROW.size)).digest() == end[TAIL:]
 
 
 def index_at(path: bytes) -> Index:

@@ -92,7 +92,7 @@ def write_index(path: bytes, index: Index, tables: Tables, moved: Moved = unmove
             rows.append(row)
         copying.copy()
         made = index_of(rows)
-        write(file.fileno(), made.entries)
+        write(file.fileno(), made.stored())
         write(file.fileno(), made.end())
         os.fsync(file.fileno())
     made.path = path

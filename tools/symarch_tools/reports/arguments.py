@@ -9,10 +9,9 @@ from dataclasses import dataclass
 from typing import Any, Dict, List, NoReturn, Optional, Sequence, Tuple
 
 from ..console.escapes import line_shown, shown
-from ..console.streams import printing, say
+from ..console.streams import help_form, printing, say
 from ..console.unforeseen_faults import DEBUG, HELP
 from ..console.version import PrintVersion
-from ..console.widths import help_form
 from ..store.file_names import beginning, is_archive, is_zip_file
 from .encodings import decoded
 from .faults import Failure, Status

@@ -135,8 +135,8 @@ def index_read(file: ArchiveFile, program: Program, screen: Screen) -> Index:
 
 def line_of_file(file: ArchiveFile, index: Index, opened: BinaryIO) -> str:
     it = os.fstat(opened.fileno())
-    digest = index.digest().hex()
-    return f"file {os.fsdecode(file.name)} {it.st_ino} {it.st_size} {it.st_mtime_ns} {digest}"
+    root = index.root().hex()
+    return f"file {os.fsdecode(file.name)} {it.st_ino} {it.st_size} {it.st_mtime_ns} {root}"
 
 
 def line_of_row(word: str, file: ArchiveFile, row: IndexRow) -> str:

@@ -16,7 +16,7 @@ pub returns-in-Some : goal.returns-in-Some
 returns-in-Some g c = record {
   is = (
     by_tables g.I.Placed.whole g.I.Placed.failures g.P.Placed.whole g.P.Placed.failures c.args.lines c.args.slices
-        c.args.read.now c.args.indexes.now c.answer_by_tables.new.indexes c.args.archives.now c.args.archives.now
+        c.args.read.now c.args.sizes.now c.args.indexes.now c.answer_by_tables.new.indexes c.args.archives.now c.args.archives.now
         c.args.key.now c.args.places.now c.in-Some.told (rw c.in-Some.is at c.in_ok-told.ensures.is.0),
     c.in_ok-told.ensures.is.1,
     kept_none g.P.Placed.whole g.P.Placed.failures c.args.archives.now,
@@ -30,6 +30,6 @@ answer_by_slices-requires-clause-tied g c = rw c.in-None.is at c.in_ok-told.ensu
 pub returns-in-None : goal.returns-in-None
 returns-in-None g c =
     slices_asked g.I.Placed.whole g.I.Placed.failures g.P.Placed.whole g.P.Placed.failures c.args.lines c.args.slices
-    c.args.read.now c.args.indexes.now c.answer_by_tables.new.indexes c.args.archives.now c.answer_by_slices.new.archives
+    c.args.read.now c.args.sizes.now c.args.indexes.now c.answer_by_tables.new.indexes c.args.archives.now c.answer_by_slices.new.archives
     c.args.key.now c.args.places.now c.answer_by_slices.result c.in_ok-told.ensures.is.1 c.in_ok-told.ensures.unfailed
     c.answer_by_slices.ensures

@@ -1,5 +1,5 @@
-use Rattle.std.proofs.Common.{◌≡◌, ◌+◌, ◌++◌, ◌<◌, ℕ, List, [], ◌∷◌, get_or, length, take, refl, ap, sym, ◌∙◌, subst, map, arith}
-use Rattle.std.specs.List.{All, Contains}
+use Rattle.std.proofs.Common.{◌≡◌, ◌+◌, ◌++◌, ◌<◌, ℕ, List, [], ◌∷◌, get_or, length, take, refl, ap, sym, ◌∙◌, arith}
+use Rattle.std.specs.List.{All}
 use Rattle.std.proofs.lemmas.List.{map-append, take_all, take_more}
 use Rattle.std.proofs.lemmas.List.Elements.{All-push}
 use Rattle.std.proofs.lemmas.Option.{slice_get_read}
@@ -7,9 +7,7 @@ use Rattle.std.proofs.lemmas.Result.{err_from_is_err_and}
 use Rattle.archive_core.specs.Key.{key_bytes}
 use Rattle.command_common.proofs.Parts.{refusal_of}
 use Rattle.command_given_indexes.proofs.Groups.{kept_none}
-use Rattle.index_lookup.specs.AmongAsked.{HaveTexts}
-use Rattle.command_frames.specs.Asking.{IsAnsweredAt}
-use Rattle.command_frames.specs.InnerKeyReplies.{IsRefusedAt, IsToldUnder, asked_in}
+use Rattle.command_frames.specs.InnerKeyReplies.{asked_in}
 use Rattle.command_frames.specs.declared.places.AskedKey.{AskedKey}
 use Rattle.command_frames.specs.declared.key_answers.KeyAnswers.{KeyAnswers}
 use Rattle.command_frames.proofs.Archives.{kept_then, kept_unfailed}
@@ -32,7 +30,7 @@ returns-in_err-answers g c =
     let inv = c.keys.invariant in
     let refused = refused_among g.I.Placed.whole g.I.Placed.failures g.P.Placed.whole g.P.Placed.failures c.args.lines
     c.args.slices c.args.read.now c.args.indexes.now c.keys.indexes c.args.archives.now c.keys.archives
-    inv.texts inv.counts inv.kept c.answer_key.new.indexes c.answer_key.new.archives
+    inv.texts inv.counts inv.kept c.args.sizes.now c.answer_key.new.indexes c.answer_key.new.archives
     (key_bytes one.key ∷ []) (key_bytes one.key ∷ []) one.places.items c.in_err-answers.field-0.0
     c.answer_key.auto.archives (λ other is. is) (rw c.deref.ensures.value at c.in_err-answers.ensures) in
     rw (p.1, p.2) (refusal_of _ _ _ _ c.in_err-answers.field-0.0 (λ at why under. record {

@@ -2,7 +2,8 @@ use Rattle.std.proofs.Common.{◌≡◌, List, ℕ, length, subst, arith}
 use Rattle.std.specs.List.{All}
 use Rattle.std.proofs.lemmas.List.{take_all}
 use Rattle.index_lookup.specs.Among.{all_of}
-use Rattle.command_given_indexes.specs.Rows.{AreRowsAmong, is_under_one}
+use Rattle.command_given_indexes.specs.Rows.{AreRowsAmong}
+use Rattle.index_format.specs.Tree.{is_under_one}
 use Rattle.command_frames.proofs.SliceRows.{longs_more, rows_either_more, rows_none_under}
 use Rattle.command_frames.proofs.slices.rows_under.Goals as goal
 

@@ -1,7 +1,8 @@
 use Rattle.std.proofs.Common.{◌≡◌, length, take}
 use Rattle.std.specs.List.{All}
 use Rattle.index_lookup.specs.Among.{all_of}
-use Rattle.command_given_indexes.specs.Rows.{AreRowsAmong, is_under_one}
+use Rattle.command_given_indexes.specs.Rows.{AreRowsAmong}
+use Rattle.index_format.specs.Tree.{is_under_one}
 use Rattle.command_frames.proofs.slices.rows_under.Given as goal
 
 abbrev pub invariant-uuids : goal.invariant-uuids

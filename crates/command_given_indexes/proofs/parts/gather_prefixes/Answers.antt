@@ -8,7 +8,7 @@ use Rattle.index_format.proofs.Gathered.{fails_behind, refused_behind}
 use Rattle.index_format.specs.Places.{FailsUnder}
 use Rattle.command_given_indexes.specs.Prefixes.{FailsUnderOne, prefix_bytes}
 use Rattle.command_given_indexes.proofs.Joined.{fails_at_prefix, fault_at, gathered_more, gathered_none}
-use Rattle.index_format.specs.Text.{placed_of}
+use Rattle.index_format.specs.Text.{placed_in}
 use Rattle.command_given_indexes.proofs.parts.gather_prefixes.Goals as goal
 
 pub prefixes-init : goal.prefixes-init
@@ -22,7 +22,7 @@ prefixes-preserved g c =
     let one = c.in_ok-gather_prefix.ensures in
     record {
       gathered = gathered_more _ _ c.args.prefixes.now c.prefixes.prefix-index c.prefix-item.result
-          (placed_of c.args.index.now) c.prefixes-test.true c.prefix-item.is c.prefixes.invariant.keeps _
+          (placed_in c.args.index.now) c.prefixes-test.true c.prefix-item.is c.prefixes.invariant.keeps _
           (map record_bytes c.prefixes.gathered.items) _ c.prefixes.invariant.gathered one.0;
       keeps = one.1 ∙ c.prefixes.invariant.keeps;
       unfailed = one.2 ∙ c.prefixes.invariant.unfailed;
@@ -35,13 +35,13 @@ returns-in_err-gather_prefix g c =
     let Fails : g.row.P.Denot → ℕ → ℕ → Type 0 = λ old. FailsWithin g.P.Placed.whole g.P.Placed.failures g.P.Placed.unread old new in
     rw (failed c.from_residual.result fault c.from_residual.ensures.1)
     (refused_behind g.P.Placed.whole g.P.Placed.failures c.args.device.now c.prefixes.device _ c.prefixes.invariant.keeps c.prefixes.invariant.unfailed
-    (FailsUnder (Fails c.prefixes.device) (prefix_bytes c.prefix-item.result) (placed_of c.args.index.now))
-    (FailsUnderOne (Fails c.args.device.now) (map prefix_bytes c.args.prefixes.now) (placed_of c.args.index.now)) fault
-    (fault_at _ _ c.args.prefixes.now c.prefixes.prefix-index c.prefix-item.result (placed_of c.args.index.now)
+    (FailsUnder (Fails c.prefixes.device) (prefix_bytes c.prefix-item.result) (placed_in c.args.index.now))
+    (FailsUnderOne (Fails c.args.device.now) (map prefix_bytes c.args.prefixes.now) (placed_in c.args.index.now)) fault
+    (fault_at _ _ c.args.prefixes.now c.prefixes.prefix-index c.prefix-item.result (placed_in c.args.index.now)
     c.prefixes-test.true c.prefix-item.is c.prefixes.invariant.keeps _ (map record_bytes c.prefixes.gathered.items)
     fault c.prefixes.invariant.gathered)
     (λ n. fails_at_prefix (g.P.Placed.whole c.args.device.now) (g.P.Placed.whole c.prefixes.device) c.args.prefixes.now
-    c.prefixes.prefix-index c.prefix-item.result (placed_of c.args.index.now) c.prefixes-test.true c.prefix-item.is
+    c.prefixes.prefix-index c.prefix-item.result (placed_in c.args.index.now) c.prefixes-test.true c.prefix-item.is
     c.prefixes.invariant.keeps (Fails c.prefixes.device) (Fails c.args.device.now) n
     (fails_behind g.P.Placed.whole g.P.Placed.failures c.args.device.now c.prefixes.device new c.prefixes.invariant.keeps
     c.prefixes.invariant.unfailed g.P.Placed.unread))

@@ -1,24 +1,25 @@
-use Rattle.std.proofs.Common.{List, ◌∙◌, ap, map, subst}
-use Rattle.std.specs.Prelude.{filter}
-use Rattle.std.specs.List.{AllZip}
-use Rattle.std.specs.List.Sorted.{IsPermutation}
-use Rattle.archive_core.specs.Part.{is_under}
-use Rattle.index_format.specs.declared.entry.IndexEntry.{IndexEntry}
-use Rattle.index_format.specs.Entry.{placed_bytes}
-use Rattle.command_given_indexes.specs.Rows.{IsEntryRow}
+use Rattle.std.proofs.Common.{List, ℕ, ◌++◌, ◌∙◌, arith, map, subst}
+use Rattle.std.proofs.lemmas.Result.{IfOk-weaker}
+use Rattle.index_format.specs.Entry.{entry_bytes}
+use Rattle.index_format.specs.Runs.{is_tagged}
+use Rattle.index_format.specs.Spread.{AreNumbered}
+use Rattle.command_given_indexes.proofs.UnderRows.{rows_of_both}
 use Rattle.command_given_indexes.proofs.rows.rows_under.Goals as goal
 
 pub returns : goal.returns
 returns c =
-    let placed = c.sort_by_offset.new.entries.items in
-    record {
-      placed = map placed_bytes placed;
-      moved = subst (λ es. IsPermutation es (map placed_bytes placed))
-          (c.in_ok-placed.ensures ∙ ap (filter (is_under c.args.prefix.now)) c.entries.ensures.placed)
-          c.sort_by_offset.ensures.moved;
-      by_offset = c.sort_by_offset.ensures.sorted;
-      told = c.in_ok-rows.rows.items;
-      each = subst (λ (es : List IndexEntry). AllZip IsEntryRow (map placed_bytes es) c.in_ok-rows.rows.items) c.deref.ensures.value c.in_ok-rows.ensures;
-      by_key = c.in_ok-put_by_key.ensures.sorted;
-      stable = c.in_ok-put_by_key.ensures.stable;
-    }
+    let es = c.args.index.now in
+    let same = c.uuid_bytes-prefix.ensures.bytes in
+    let long = c.uuid_bytes-prefix.ensures.long in
+    let first = c.run_under.result.1.now in
+    let second = c.run_under-2.result.1.now in
+    let one = subst (λ (prefix : List ℕ). AreNumbered (is_tagged 1 prefix) es c.run_under.result.0.now (map entry_bytes first)) same
+    c.run_under.ensures.run in
+    let two = subst (λ (prefix : List ℕ). AreNumbered (is_tagged 2 prefix) es c.run_under-2.result.0.now (map entry_bytes second)) same
+    c.run_under-2.ensures.run in
+    let begun = c.in_ok-extend_from_slice.ensures.items ∙ (λ i. c.new-placed.ensures.items i ++ first) in
+    IfOk-weaker c.sorted_rows.result _ _
+    (λ rows are. rows_of_both c.args.uuid (omega (arith, long)) (omega (arith, long)) es c.run_under.result.0.now
+    c.run_under-2.result.0.now first second c.extend_from_slice-2.new.self.items rows.items c.len-count.ensures.tags
+    c.run_under.ensures.fields c.run_under-2.ensures.fields one two
+    (c.in_ok-extend_from_slice-2.ensures.items ∙ (λ i. begun i ++ second)) are) c.sorted_rows.ensures

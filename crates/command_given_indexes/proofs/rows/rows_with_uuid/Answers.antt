@@ -1,4 +1,4 @@
-use Rattle.std.proofs.Common.{List, ℕ, subst}
+use Rattle.std.proofs.Common.{List, ℕ, subst, arith}
 use Rattle.index_format.specs.Runs.{is_tagged}
 use Rattle.command_given_indexes.specs.Rows.{AreRowsAmong}
 use Rattle.command_given_indexes.proofs.RowsAmong.{rows_of_tags}
@@ -10,6 +10,7 @@ returns c =
     let same = c.uuid_bytes-prefix.ensures.bytes in
     let rows = c.in_ok-rows.rows.items in
     let more = c.in_ok-admitted.admitted.items in
-    let first = subst (λ (prefix : List ℕ). AreRowsAmong (is_tagged 1 prefix) es rows) same c.in_ok-rows.ensures.rows in
-    let second = subst (λ (prefix : List ℕ). AreRowsAmong (is_tagged 2 prefix) es more) same c.in_ok-admitted.ensures.rows in
-    rw c.in_ok-append.ensures.items (rows_of_tags c.args.uuid es rows more c.in_ok-rows.ensures.tags first second)
+    let first = subst (λ (prefix : List ℕ). AreRowsAmong (is_tagged 1 prefix) es rows) same c.in_ok-rows.ensures in
+    let second = subst (λ (prefix : List ℕ). AreRowsAmong (is_tagged 2 prefix) es more) same c.in_ok-admitted.ensures in
+    rw c.in_ok-append.ensures.items (rows_of_tags c.args.uuid es rows more (omega (arith, c.uuid_bytes-prefix.ensures.long))
+    c.len-count.ensures.tags first second)

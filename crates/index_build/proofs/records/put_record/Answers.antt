@@ -1,4 +1,4 @@
-use Rattle.std.proofs.Common.{◌≡◌, ◌<◌, ◌∙◌, ℕ, List, ap, arith, rules, slice_index, subst}
+use Rattle.std.proofs.Common.{◌≡◌, ◌<◌, ◌^◌, ◌∙◌, ℕ, List, ap, arith, length, rules, slice_index, subst}
 use Rattle.byte_device.specs.Writes.{IsPut}
 use Rattle.table_checked_pages.specs.Pages.{stored}
 use Rattle.table_checked_pages.specs.Views.{claim_view}
@@ -27,3 +27,8 @@ pub returns-in-Ok-put_table-clause-bytes : goal.returns-in-Ok-put_table-clause-b
 returns-in-Ok-put_table-clause-bytes g c = λ i.
     let fits : slice_index c.last-last.result.now i < 256 = first_of (omega arith, search rules) in
     subst (λ (bytes : List ℕ). slice_index bytes i < 256) c.last-last.ensures fits
+
+pub returns-in-Ok-put_table-clause-long : goal.returns-in-Ok-put_table-clause-long
+returns-in-Ok-put_table-clause-long g c =
+    let fits : length c.last-last.result.now < 2 ^ 64 = omega arith in
+    subst (λ (bytes : List ℕ). length bytes < 2 ^ 64) c.last-last.ensures fits

@@ -15,6 +15,7 @@ taking-init g c = record {
   file = c.requires.file;
   unfailed = refl;
   short = c.requires.fits;
+  near = c.requires.near;
 }
 
 pub returns-in-Ok-End-clause-all : goal.returns-in-Ok-End-clause-all
@@ -22,6 +23,11 @@ returns-in-Ok-End-clause-all g c = λ a first read put.
     let step = rw c.in-Ok-End.field-0-is at c.in-Ok-End.ensures in
     put_all a _ _ _ _ first c.taking.w c.taking.w c.taking.entries.items c.taking.reader c.advance.new.self
     c.taking.done (c.taking.invariant.gathers a first read put) step.0
+
+pub returns-in-Ok-End-clause-near : goal.returns-in-Ok-End-clause-near
+returns-in-Ok-End-clause-near g c =
+    let step = rw c.in-Ok-End.field-0-is at c.in-Ok-End.ensures in
+    omega (arith, step.0.offset_is, c.taking.invariant.near)
 
 pub returns-in-Err-clause-stopped : goal.returns-in-Err-clause-stopped
 returns-in-Err-clause-stopped g c =
@@ -71,4 +77,5 @@ taking-preserved g c =
       file = step.0.file_is ∙ c.taking.invariant.file;
       unfailed = step.1 ∙ c.taking.invariant.unfailed;
       short = c.in_ok-entry.ensures.short;
+      near = omega (arith, step.0.offset_is, near, c.in_ok-entry.ensures.long);
     }

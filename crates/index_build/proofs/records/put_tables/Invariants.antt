@@ -15,6 +15,7 @@ invariant-taking g l = record {
   file : l.reader.file ≡ Archive;
   unfailed : g.R.Source.failures l.r ≡ g.R.Source.failures l.initial.r;
   short : l.done < 2 ^ 80;
+  near : l.reader.offset < 2 ^ 65;
 }
 
 abbrev pub decreases-taking : goal.decreases-taking

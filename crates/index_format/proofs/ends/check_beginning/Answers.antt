@@ -1,4 +1,4 @@
-use Rattle.std.proofs.Common.{◌≤◌, ◌∙◌, ap, refl, sym, arith}
+use Rattle.std.proofs.Common.{◌∙◌, ap, refl, sym, arith}
 use Rattle.index_format.specs.Text.{earlier_magic}
 use Rattle.std.specs.Str.{bytes_eq}
 use Rattle.index_format.proofs.EndLemmas.{asked, front_passes, magic_fails, old_fails, room_fails}
@@ -17,11 +17,11 @@ returns-then-not-begins-clause-checked c = λ text size beginning. record {
   offset_is = refl;
 }
 
-pub returns-then-not-has_room-clause-checked : goal.returns-then-not-has_room-clause-checked
-returns-then-not-has_room-clause-checked c = λ text size beginning. let short : 49 ≤ c.args.size → ⊥ = λ room. cc (c.if-not-has_room.ensures.1 room) in record {
+pub returns-then-size-lt-ENDS_LEN-clause-checked : goal.returns-then-size-lt-ENDS_LEN-clause-checked
+returns-then-size-lt-ENDS_LEN-clause-checked c = λ text size beginning. record {
   fails = room_fails text (ap (λ t. bytes_eq t earlier_magic) (sym beginning) ∙ sym c.if-is_earlier.ensures)
       (sym (asked text c.args.beginning.now c.args.size size beginning c.requires) ∙ sym c.if-not-begins.ensures)
-      (omega (arith, size, short));
+      (omega (arith, size, c.if-size-lt-ENDS_LEN.true));
   offset_is = omega (arith, size, c.saturating_sub.ensures);
 }
 
@@ -29,4 +29,4 @@ pub returns-clause-checked : goal.returns-clause-checked
 returns-clause-checked c = λ text size beginning.
     front_passes text (ap (λ t. bytes_eq t earlier_magic) (sym beginning) ∙ sym c.if-is_earlier.ensures)
     (sym (asked text c.args.beginning.now c.args.size size beginning c.requires) ∙ sym c.if-not-begins.ensures)
-    (omega (arith, size))
+    (omega (arith, size, c.if-size-lt-ENDS_LEN.false))

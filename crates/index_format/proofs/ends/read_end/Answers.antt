@@ -17,8 +17,8 @@ pub returns-in_err-end-clause-read : goal.returns-in_err-end-clause-read
 returns-in_err-end-clause-read g c =
     let p = err_from_is_err_and c.from_residual.result c.from_residual.ensures.1 in
     passed_on c.in_err-end.was (p.1 ∙ ap Err p.2)
-    (λ text known refused. inr (λ fronted. part_unread FailsAtEnd (c.args.size - 41) 41 text _
-    (inr (inl (ap (λ (n : ℕ). n - 41) fronted.size_is))) (omega (arith, fronted.size_is, c.requires)) refused))
+    (λ text known refused. inr (λ fronted. part_unread FailsAtEnd (c.args.size - 57) 57 text _
+    (inr (inl (ap (λ (n : ℕ). n - 57) fronted.size_is))) (omega (arith, fronted.size_is, c.requires)) refused))
     c.read_part.ensures.read
 
 pub returns-clause-read : goal.returns-clause-read
@@ -29,5 +29,5 @@ returns-clause-read g c =
     under c.ends_in.result (AreEndsOf text) (IsRefused FailsAtEnd text) (λ (fronted : HasBeginning text c.args.size).
     as_refused c.ends_in.result (AreEndsOf text) FailsAtEnd text
     (c.ends_in.ensures.checked text fronted (c.deref.ensures.value ∙ read.says text known
-    ∙ last_part text c.args.size 41 fronted.size_is))))
+    ∙ last_part text c.args.size 57 fronted.size_is))))
     c.ends_in.ensures.faulty

@@ -40,7 +40,8 @@ returns g c =
           let are = ends.says text known in
           let of = read.says text known are in
           rw c.of_entries.ensures (index_of text c.in_ok-ends.ends (map entry_bytes c.in_ok-entries.entries.items) are
-          (omega (arith, c.in_ok-ends.ensures.fits)) of.digest of.checked.whole of.checked.pass of.laid);
+          (omega (arith, c.in_ok-ends.ensures.fits)) c.in_ok-ends.ensures.short of.digest of.checked.whole of.checked.pass
+          of.laid of.numbers);
       keeps = read.keeps;
       counts = read.counts;
     }

@@ -15,10 +15,10 @@ use Rattle.index_lookup.proofs.Columns.{zip_viewed}
 use Rattle.index_lookup.proofs.lines.frames_of_each.Goals as goal
 
 -- a table that is opened stays so while its pages are kept
-still : (table : LineTable) (old new : Pages) (text all : List ℕ) (steps : List StepRecord)
-    → (ArePagesOf old text all → ArePagesOf new text all) → IsOpened table old text all steps
-    → IsOpened table new text all steps
-still table old new text all steps keeps opened = record
+still : (table : LineTable) (old new : Pages) (text all strings : List ℕ) (steps : List StepRecord)
+    → (ArePagesOf old text all → ArePagesOf new text all) → IsOpened table old text all strings steps
+    → IsOpened table new text all strings steps
+still table old new text all strings steps keeps opened = record
     { are_pages = keeps opened.are_pages; stands = opened.stands; widths = opened.widths; head = opened.head }
 
 pub asked-preserved : goal.asked-preserved
@@ -37,9 +37,9 @@ asked-preserved g c =
           c.in_default.ensures.items
           (c.asked.invariant.told text known)
           (record {
-            of_slice = λ slice all steps are base opened.
-                (own.read.says text (c.asked.invariant.whole ∙ known)).of_slice slice all steps are
-                base (still c.args.table.now c.args.pages.now c.asked.pages text all steps
+            of_slice = λ slice all strings steps are base opened.
+                (own.read.says text (c.asked.invariant.whole ∙ known)).of_slice slice all strings steps are
+                base (still c.args.table.now c.args.pages.now c.asked.pages text all strings steps
                 (c.asked.invariant.keeps text all known) opened);
             of_bytes = λ all pages. (own.read.says text (c.asked.invariant.whole ∙ known)).of_bytes all
                 (c.asked.invariant.keeps text all known pages);
@@ -49,9 +49,9 @@ asked-preserved g c =
 pub returns-in_err-frames : goal.returns-in_err-frames
 returns-in_err-frames g c =
     passed_on c.in_err-frames.was c.from_residual.ensures.1
-    (λ text known absent slice all steps stored are opened.
-    absent slice all steps (subst (λ claim. AreStored text (claim_view claim) all) (sym c.asked.invariant.claim) stored)
-    are (still c.args.table.now c.args.pages.now c.asked.pages text all steps
+    (λ text known absent slice all strings steps stored are opened.
+    absent slice all strings steps (subst (λ claim. AreStored text (claim_view claim) all) (sym c.asked.invariant.claim) stored)
+    are (still c.args.table.now c.args.pages.now c.asked.pages text all strings steps
     (c.asked.invariant.keeps text all known) opened))
     (after_ok c.asked.invariant.whole c.asked.invariant.unfailed c.frames_of.ensures.read)
 

@@ -1,8 +1,10 @@
-use Rattle.std.proofs.Common.{◌≡◌, ◌+◌, ◌++◌, map, take}
+use Rattle.std.proofs.Common.{◌≡◌, ◌++◌, map, not, take}
 use Rattle.std.specs.Prelude.{filter}
-use Rattle.index_lookup.specs.InnerAnswering.{entries_at, entry_at, lives_by}
+use Rattle.index_format.specs.Entry.{entry_bytes}
+use Rattle.index_lookup.specs.InnerAnswering.{entry_at, is_retired}
+use Rattle.index_lookup.proofs.RunLemmas.{placed_at}
 use Rattle.index_lookup.proofs.live.gather.Given as goal
 
 abbrev pub invariant-run : goal.invariant-run
 invariant-run l = map entry_at l.live.items ≡ map entry_at l.initial.live.items
-    ++ filter (λ x. lives_by l.prefix l.retired x.entry) (take (l.start + l.nth) (entries_at l.input 0 l.index))
+    ++ filter (λ x. not (is_retired l.retired x.entry)) (take l.nth (placed_at l.input l.numbers (map entry_bytes l.entries)))

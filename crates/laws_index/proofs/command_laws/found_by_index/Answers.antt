@@ -1,18 +1,18 @@
-use Rattle.std.proofs.Common.{subst}
-use Rattle.archive_core.specs.Summary.{Entries}
-use Rattle.command_given_indexes.specs.Rows.{AreIndexRows}
-use Rattle.laws_index.proofs.Accepted.{entries_are, have_keys}
+use Rattle.std.proofs.Common.{[], ◌∷◌, arith, refl}
+use Rattle.laws_index.proofs.Accepted.{have_keys}
+use Rattle.laws_index.proofs.ByIndex.{rows_whole}
 use Rattle.laws_index.proofs.IndexRows.{found_of_index}
+use Rattle.laws_index.proofs.Parts.{uuid_under}
 use Rattle.laws_index.proofs.command_laws.found_by_index.Goals as goal
 
 pub returns : goal.returns
 returns g c = λ input archive o uuid status text long (index, given, file) makes.
     let told = makes.have in
-    let is = entries_are input o told.entries (index, given, file) told.index_of.index_is in
     record {
       rows = makes.rows;
       have = found_of_index o uuid makes.rows long file.content (have_keys o index file) file.archive_fits
-          (subst (λ (s : Entries). AreIndexRows uuid s makes.rows) is told.is_true);
+          (rows_whole (uuid ∷ []) uuid input archive o told.all makes.rows (omega arith) (uuid_under (uuid ∷ []) uuid (0, omega arith, refl))
+          (index, given, file) told.read told.rows_are);
       status_is = makes.status_is;
       text_is = makes.text_is;
     }

@@ -1,4 +1,5 @@
 use Rattle.std.proofs.Common.{[], subst}
+use Rattle.join_core.specs.Listing.{listing}
 use Rattle.archive_core.specs.Summary.{Entries}
 use Rattle.command_given_indexes.specs.Rows.{AreIndexRows}
 use Rattle.laws_index.proofs.Accepted.{entries_are, have_keys}
@@ -12,7 +13,7 @@ returns g c = λ input archive o status text (index, given, file) makes.
     record {
       rows = makes.rows;
       have = list_of_index o makes.rows file.content (have_keys o index file) file.archive_fits
-          (subst (λ (s : Entries). AreIndexRows [] s makes.rows) is told.is_true);
+          (subst (λ (s : Entries). AreIndexRows [] (listing s) makes.rows) is told.is_true);
       status_is = makes.status_is;
       text_is = makes.text_is;
     }

@@ -1,4 +1,4 @@
-use Rattle.std.proofs.Common.{◌≡◌, ◌∙◌, ◌+◌, ◌*◌, ap, sym, arith}
+use Rattle.std.proofs.Common.{◌≡◌, ◌*◌, ap, arith}
 use Rattle.table_checked_pages.specs.Pages.{digests_size, pages_in}
 use Rattle.table_checked_pages.proofs.LevelLemmas.{digests_more, digests_most, digests_none}
 use Rattle.table_checked_pages.proofs.sizes.digests_len.Goals as goal

@@ -1,4 +1,4 @@
-use Rattle.std.proofs.Common.{◌-◌, ◌≡◌, ◌+◌, ◌<◌, ◌^◌}
+use Rattle.std.proofs.Common.{◌≡◌, ◌+◌, ◌<◌, ◌^◌}
 use Rattle.table_checked_pages.specs.Pages.{digests_size}
 use Rattle.table_checked_pages.proofs.sizes.digests_len.Given as goal
 

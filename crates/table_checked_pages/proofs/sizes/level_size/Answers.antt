@@ -1,4 +1,4 @@
-use Rattle.std.proofs.Common.{◌≡◌, ◌∙◌, ◌+◌, ◌*◌, ap, sym, refl, arith}
+use Rattle.std.proofs.Common.{◌≡◌, ◌∙◌, ◌*◌, ap, refl, arith}
 use Rattle.table_checked_pages.specs.Pages.{level_size, pages_in}
 use Rattle.table_checked_pages.proofs.LevelLemmas.{level_next}
 use Rattle.table_checked_pages.proofs.sizes.level_size.Goals as goal

@@ -1,4 +1,4 @@
-use Rattle.std.proofs.Common.{◌≡◌, ◌∙◌, ℕ, List, drop, length, min, take, ap, sym}
+use Rattle.std.proofs.Common.{◌∙◌, ℕ, List, take, ap}
 use Rattle.table_checked_pages.proofs.PageLemmas.{take_least}
 use Rattle.table_checked_pages.proofs.storing.page_of.Goals as goal
 

@@ -8,13 +8,13 @@ use Rattle.index_format.specs.declared.entry.IndexEntry.{IndexEntry}
 use Rattle.index_format.proofs.Fronts.{lengths_together}
 use Rattle.index_format.proofs.index.Index.archive_size.Goals as goal
 
-pub framed_size-requires : goal.framed_size-requires
-framed_size-requires c = subst (All HasItsFields) (sym c.deref.ensures.value) c.self.invariant.fields
+pub archive_len-requires : goal.archive_len-requires
+archive_len-requires c = subst (All HasItsFields) (sym c.deref.ensures.value) c.self.invariant.fields
 
 pub returns : goal.returns
 returns c =
     let items : List IndexEntry = c.self.inside.entries.items in
-    c.framed_size.ensures
+    c.archive_len.ensures
     ∙ ap (λ (es : List IndexEntry). 17 + sum_by length_in (map entry_bytes es)) c.deref.ensures.value
     ∙ ap (λ (n : ℕ). 17 + n) (sym (lengths_together items c.self.invariant))
     ∙ ap (λ (xs : List (List ℕ)). 17 + lengths_of (placed_of xs)) c.self.view_is

@@ -2,7 +2,6 @@ use Rattle.std.proofs.Common.{◌<◌, List, ℕ, [], length, get_or, sym, ap, �
 use Rattle.std.proofs.Math.ListN.{length-map}
 use Rattle.std.proofs.lemmas.List.{map-set, get_or-set_same}
 use Rattle.table_checked_pages.specs.Pages.{AreKept}
-use Rattle.table_checked_pages.specs.Views.{level_view}
 use Rattle.table_checked_pages.proofs.PageLemmas.{kept_more}
 use Rattle.table_checked_pages.proofs.level.Level.keep.Goals as goal
 

@@ -1,4 +1,4 @@
-use Rattle.std.proofs.Common.{◌≡◌, sym, subst, ◌∙◌, arith}
+use Rattle.std.proofs.Common.{◌≡◌, sym, subst, arith}
 use Rattle.table_checked_pages.specs.Pages.{MayBeStored, level_of, page_of}
 use Rattle.table_checked_pages.specs.Views.{claim_view}
 use Rattle.table_checked_pages.proofs.LevelLemmas.{level_within}

@@ -1,5 +1,5 @@
-use Rattle.std.proofs.Common.{◌≡◌, ◌∙◌, ap, arith}
-use Rattle.table_checked_pages.specs.Pages.{digests_size, level_size}
+use Rattle.std.proofs.Common.{◌∙◌, ap, arith}
+use Rattle.table_checked_pages.specs.Pages.{digests_size}
 use Rattle.table_checked_pages.proofs.LevelLemmas.{level_within}
 use Rattle.table_checked_pages.proofs.pages.Pages.page_offset.Goals as goal
 

@@ -1,12 +1,13 @@
 use Rattle.std.proofs.Common.{length, refl, arith}
 use Rattle.table_checked_pages.proofs.ReadLemmas.{passed_on}
-use Rattle.table_source_frames.proofs.OpenedLemmas.{file_number, file_read, opened_long}
+use Rattle.table_source_frames.proofs.OpenedLemmas.{file_within, file_read, opened_long}
 use Rattle.table_source_frames.proofs.ByteLemmas.{file_in}
 use Rattle.table_source_frames.proofs.table.LineTable.file_row.Goals as goal
 
 pub returns-in_default-clause-read : goal.returns-in_default-clause-read
 returns-in_default-clause-read g c = record {
-  says = λ text known all steps path stored opened is. c.index_of.ensures.none c.in_default.is is.some (file_number _ _ _ _ _ opened c.args.number path is);
+  says = λ text known all strings steps path stored opened is. c.index_of.ensures.none c.in_default.is is.some
+      (file_within _ _ _ _ _ _ opened c.args.number path is);
   keeps = refl;
   counts = refl;
 }
@@ -14,14 +15,14 @@ returns-in_default-clause-read g c = record {
 pub returns-in_err-read-clause-read : goal.returns-in_err-read-clause-read
 returns-in_err-read-clause-read g c =
     passed_on c.in_err-read.was c.from_residual.ensures.1
-    (λ text known absent all steps path stored opened is.
-    absent all stored opened.are_pages (omega (arith, opened_long _ _ _ _ _ opened, c.in-Some.ensures.inside, c.first_file.ensures, c.read.auto.buf)))
+    (λ text known absent all strings steps path stored opened is.
+    absent all stored opened.are_pages (omega (arith, opened_long _ _ _ _ _ _ opened, c.in-Some.ensures.inside, c.first_file.ensures, c.read.auto.buf)))
     c.read.ensures.read
 
 pub returns-clause-read : goal.returns-clause-read
 returns-clause-read g c = record {
-  says = λ text known all steps path opened is.
-      file_read _ _ _ _ _ opened c.read.new.buf c.args.number c.in-Some.index (length c.read.new.buf) _ _ path is
+  says = λ text known all strings steps path opened is.
+      file_read _ _ _ _ _ _ opened c.read.new.buf c.args.number c.in-Some.index (length c.read.new.buf) _ _ path is
       c.in-Some.ensures.is c.read.auto.buf (omega (arith, c.first_file.ensures))
       (c.in_ok-read.ensures.read.says text known all opened.are_pages) c.u32_be_at.ensures c.u32_be_at-2.ensures c.u32_be_at-3.ensures;
   keeps = c.in_ok-read.ensures.read.keeps;

@@ -8,16 +8,16 @@ use Rattle.table_source_frames.proofs.table.LineTable.path_of.Goals as goal
 pub returns-in_err-base-clause-read : goal.returns-in_err-base-clause-read
 returns-in_err-base-clause-read g c =
     passed_on c.in_err-base.was c.from_residual.ensures.1
-    (λ text known absent all steps told stored opened is. absent all steps told.base stored opened is.base)
+    (λ text known absent all strings steps told stored opened is. absent all strings steps told.base stored opened is.base)
     c.text.ensures.read
 
 pub returns-in_err-directory-clause-read : goal.returns-in_err-directory-clause-read
 returns-in_err-directory-clause-read g c =
     let base = c.in_ok-base.ensures.read in
     passed_on c.in_err-directory.was c.from_residual-in_err-directory.ensures.1
-    (λ text known absent all steps told stored opened is.
-    absent all steps told.directory (subst (λ claim. AreStored text (claim_view claim) all) (sym c.in_ok-base.ensures.claim) stored)
-    (kept _ _ _ _ _ _ opened (c.in_ok-base.ensures.keeps text all known opened.are_pages)) is.directory)
+    (λ text known absent all strings steps told stored opened is.
+    absent all strings steps told.directory (subst (λ claim. AreStored text (claim_view claim) all) (sym c.in_ok-base.ensures.claim) stored)
+    (kept _ _ _ _ _ _ _ opened (c.in_ok-base.ensures.keeps text all known opened.are_pages)) is.directory)
     (after_ok base.keeps base.counts c.text-2.ensures.read)
 
 pub returns-in_err-name-clause-read : goal.returns-in_err-name-clause-read
@@ -25,10 +25,10 @@ returns-in_err-name-clause-read g c =
     let base = c.in_ok-base.ensures.read in
     let directory = after_ok base.keeps base.counts c.in_ok-directory.ensures.read in
     passed_on c.in_err-name.was c.from_residual-in_err-name.ensures.1
-    (λ text known absent all steps told stored opened is.
-    absent all steps told.name (subst (λ claim. AreStored text (claim_view claim) all)
+    (λ text known absent all strings steps told stored opened is.
+    absent all strings steps told.name (subst (λ claim. AreStored text (claim_view claim) all)
     (sym (c.in_ok-directory.ensures.claim ∙ c.in_ok-base.ensures.claim)) stored)
-    (kept _ _ _ _ _ _ opened (c.in_ok-directory.ensures.keeps text all (base.keeps ∙ known)
+    (kept _ _ _ _ _ _ _ opened (c.in_ok-directory.ensures.keeps text all (base.keeps ∙ known)
     (c.in_ok-base.ensures.keeps text all known opened.are_pages))) is.name)
     (after_ok directory.keeps directory.counts c.text-3.ensures.read)
 
@@ -38,12 +38,12 @@ returns-clause-read g c =
     let directory = after_ok base.keeps base.counts c.in_ok-directory.ensures.read in
     let name = after_ok directory.keeps directory.counts c.in_ok-name.ensures.read in
     record {
-      says = λ text known all steps told opened is.
-          let second = kept _ _ _ _ _ _ opened (c.in_ok-base.ensures.keeps text all known opened.are_pages) in
-          let third = kept _ _ _ _ _ _ second (c.in_ok-directory.ensures.keeps text all (base.keeps ∙ known) second.are_pages) in
-          same_path_parts _ _ _ told (base.says text known all steps told.base opened is.base)
-          (directory.says text known all steps told.directory second is.directory)
-          (name.says text known all steps told.name third is.name);
+      says = λ text known all strings steps told opened is.
+          let second = kept _ _ _ _ _ _ _ opened (c.in_ok-base.ensures.keeps text all known opened.are_pages) in
+          let third = kept _ _ _ _ _ _ _ second (c.in_ok-directory.ensures.keeps text all (base.keeps ∙ known) second.are_pages) in
+          same_path_parts _ _ _ told (base.says text known all strings steps told.base opened is.base)
+          (directory.says text known all strings steps told.directory second is.directory)
+          (name.says text known all strings steps told.name third is.name);
       keeps = name.keeps;
       counts = name.counts;
     }

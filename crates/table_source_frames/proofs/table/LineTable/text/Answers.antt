@@ -1,57 +1,51 @@
-use Rattle.std.proofs.Common.{refl, sym, subst, ◌∙◌, arith}
-use Rattle.std.proofs.lemmas.Option.{same_Some}
-use Rattle.table_checked_pages.specs.Pages.{AreStored}
-use Rattle.table_checked_pages.specs.Views.{claim_view}
-use Rattle.table_checked_pages.proofs.ReadLemmas.{after_ok, passed_on}
-use Rattle.table_source_frames.proofs.SameLemmas.{text_decides}
-use Rattle.table_source_frames.specs.LineText.{parts_of}
-use Rattle.table_source_frames.specs.Numbering.{same_text}
-use Rattle.table_source_frames.proofs.OpenedLemmas.{kept, stands_at, text_number}
-use Rattle.table_source_frames.proofs.ByteLemmas.{stored_text}
+use Rattle.std.proofs.Common.{refl, sym, subst, ap, ◌∙◌, inl, inr, arith}
+use Rattle.std.proofs.lemmas.Result.{IfOk-weaker}
+use Rattle.table_checked_pages.proofs.ReadLemmas.{read_as}
+use Rattle.table_source_frames.specs.LineText.{string_at}
+use Rattle.table_source_frames.specs.OfBytes.{IsStoredText, strings_in}
+use Rattle.table_source_frames.proofs.OpenedLemmas.{text_of_others, text_of_strings}
 use Rattle.table_source_frames.proofs.table.LineTable.text.Goals as goal
+
+pub returns-then-from-strings-clause-read : goal.returns-then-from-strings-clause-read
+returns-then-from-strings-clause-read g c =
+    read_as
+    (λ text known bytes says all strings steps told opened is.
+    says all strings steps told opened (text_of_others _ _ _ _ _ _ opened c.args.number _ told is (omega arith) (omega arith)))
+    (λ text known absent all strings steps told stored opened is.
+    absent all strings steps told stored opened (text_of_others _ _ _ _ _ _ opened c.args.number _ told is (omega arith) (omega arith)))
+    c.other_text.ensures.read
 
 pub returns-in_default-clause-read : goal.returns-in_default-clause-read
 returns-in_default-clause-read g c = record {
-  says = λ text known all steps told stored opened is. c.index_of.ensures.none c.in_default.is is.some (text_number _ _ _ _ _ opened c.args.number told is);
+  says = λ text known all strings steps told stored opened is. c.index_of.ensures.none c.in_default.is is.some (omega arith);
   keeps = refl;
   counts = refl;
 }
 
-pub returns-in_err-row-clause-read : goal.returns-in_err-row-clause-read
-returns-in_err-row-clause-read g c =
-    passed_on c.in_err-row.was c.from_residual.ensures.1
-    (λ text known absent all steps told stored opened is. absent all steps stored opened)
-    c.text_row.ensures.read
-
-pub returns-in_err-bytes-clause-read : goal.returns-in_err-bytes-clause-read
-returns-in_err-bytes-clause-read g c =
-    let row = c.in_ok-row.ensures.read in
-    passed_on c.in_err-bytes.was c.from_residual-in_err-bytes.ensures.1
-    (λ text known absent all steps told stored opened is.
-    absent all steps c.in-Some.index (subst (λ claim. AreStored text (claim_view claim) all) (sym c.in_ok-row.ensures.claim) stored)
-    (kept _ _ _ _ _ _ opened (c.in_ok-row.ensures.keeps text all known opened.are_pages)) (omega (arith, c.in-Some.ensures.inside, opened.head.texts))
-    (row.says text known all steps opened))
-    (after_ok row.keeps row.counts c.text_of.ensures.read)
-
 pub returns-clause-read : goal.returns-clause-read
 returns-clause-read g c =
-    let row = c.in_ok-row.ensures.read in
-    let bytes = after_ok row.keeps row.counts c.in_ok-bytes.ensures.read in
-    record {
-      says = λ text known all steps told opened is.
-          let there = bytes.says text known all steps c.in-Some.index
-          (kept _ _ _ _ _ _ opened (c.in_ok-row.ensures.keeps text all known opened.are_pages))
-          (omega (arith, c.in-Some.ensures.inside, opened.head.texts)) (row.says text known all steps opened) in
-          same_Some _ told (sym there ∙ stands_at same_text text_decides (parts_of steps).texts told c.args.number
-          c.in-Some.index is.is is.some c.in-Some.ensures.is);
-      keeps = bytes.keeps;
-      counts = bytes.counts;
-    }
+    read_as
+    (λ text known bytes says all strings steps told opened is.
+    says all strings steps opened
+    ∙ sym (text_of_strings _ _ _ _ _ _ opened c.args.number c.in-Some.offset told is c.in-Some.ensures.is (omega arith)))
+    (λ text known absent all strings steps told stored opened is. absent all strings steps stored opened)
+    c.string.ensures.read
+
+pub returns-then-from-strings-clause-bytes : goal.returns-then-from-strings-clause-bytes
+returns-then-from-strings-clause-bytes g c =
+    IfOk-weaker c.other_text.result _ _
+    (λ bytes told text all known pages. inr (
+      omega arith,
+      subst (λ k. IsStoredText c.args.self.now all k bytes.items) (omega arith) (told text all known pages),
+    ))
+    c.other_text.ensures.bytes
 
 pub returns-clause-bytes : goal.returns-clause-bytes
-returns-clause-bytes g c = λ text all known pages.
-    stored_text c.args.self.now all c.args.number c.in-Some.index c.in_ok-row.row c.in_ok-bytes.bytes.items
-    c.in-Some.ensures.is c.in-Some.ensures.inside (c.in_ok-row.ensures.bytes text all known pages)
-    c.in_ok-bytes.ensures.inside
-    (c.in_ok-bytes.ensures.bytes text all (c.in_ok-row.ensures.read.keeps ∙ known)
-    (c.in_ok-row.ensures.keeps text all known pages))
+returns-clause-bytes g c =
+    IfOk-weaker c.string.result _ _
+    (λ bytes told text all known pages. inl (record {
+      some = omega (arith, c.in-Some.ensures.is);
+      within = omega arith;
+      is = told text all known pages ∙ ap (string_at (strings_in c.args.self.now all)) (omega (arith, c.in-Some.ensures.is));
+    }))
+    c.string.ensures.bytes

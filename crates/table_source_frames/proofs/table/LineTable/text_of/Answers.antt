@@ -7,8 +7,8 @@ use Rattle.table_source_frames.proofs.table.LineTable.text_of.Goals as goal
 
 pub returns-then-end-self-clause-read : goal.returns-then-end-self-clause-read
 returns-then-end-self-clause-read g c = record {
-  says = λ text known all steps index stored opened within is.
-      omega (arith, text_ends _ _ _ _ _ opened index c.args.row within is, c.if-end-self.true, c.from.ensures, c.from-2.ensures);
+  says = λ text known all strings steps index stored opened within is.
+      omega (arith, text_ends _ _ _ _ _ _ opened index c.args.row within is, c.if-end-self.true, c.from.ensures, c.from-2.ensures);
   keeps = refl;
   counts = refl;
 }
@@ -16,12 +16,12 @@ returns-then-end-self-clause-read g c = record {
 pub returns-in_err-read-clause-read : goal.returns-in_err-read-clause-read
 returns-in_err-read-clause-read g c =
     passed_on c.in_err-read.was c.from_residual-in_err-read.ensures.1
-    (λ text known absent all steps index stored opened within is.
+    (λ text known absent all strings steps index stored opened within is.
     absent all stored opened.are_pages
     (omega (
       arith,
-      opened_long _ _ _ _ _ opened,
-      text_ends _ _ _ _ _ opened index c.args.row within is,
+      opened_long _ _ _ _ _ _ opened,
+      text_ends _ _ _ _ _ _ opened index c.args.row within is,
       c.texts_offset.ensures,
       c.read.auto.buf,
       c.in_ok-bytes.ensures.long,
@@ -31,9 +31,9 @@ returns-in_err-read-clause-read g c =
 
 pub returns-clause-read : goal.returns-clause-read
 returns-clause-read g c = record {
-  says = λ text known all steps index opened within is.
+  says = λ text known all strings steps index opened within is.
       let long = ap length c.deref_mut.ensures.value in
-      text_read _ _ _ _ _ opened c.read.new.buf index (length c.read.new.buf) _ c.args.row within is
+      text_read _ _ _ _ _ _ opened c.read.new.buf index (length c.read.new.buf) _ c.args.row within is
       (omega (arith, c.read.auto.buf, long, c.in_ok-bytes.ensures.long))
       (omega (arith, c.texts_offset.ensures, c.from-3.ensures)) (c.in_ok-read.ensures.read.says text known all opened.are_pages)
       ∙ ap Some (sym (take_at c.read.new.buf _ c.in_ok-bytes.bytes.len (omega (arith, c.read.auto.buf, long, c.in_ok-bytes.bytes.ok.0))));

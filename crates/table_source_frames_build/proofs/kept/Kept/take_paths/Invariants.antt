@@ -6,6 +6,9 @@ use Rattle.table_source_frames_build.proofs.kept.Kept.take_paths.Given as goal
 
 abbrev pub invariant-loop-file : goal.invariant-loop-file
 invariant-loop-file l = record {
-  count : length l.uses.given.items ≡ length l.fn.uses.given.items;
-  order : l.uses.order.items ≡ numbered_after nat_eq l.fn.uses.order.items (path_uses (kept_view l.self) (take l.file-index l.files));
+  count : length l.texts.uses.given.items ≡ length l.fn.texts.uses.given.items;
+  before : l.texts.before ≡ l.fn.texts.before;
+  places : l.texts.places ≡ l.fn.texts.places;
+  order : l.texts.uses.order.items ≡ numbered_after nat_eq l.fn.texts.uses.order.items
+      (path_uses (kept_view l.self) l.fn.texts.places.items (take l.file-index l.files));
 }

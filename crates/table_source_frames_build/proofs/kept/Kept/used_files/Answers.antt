@@ -1,23 +1,23 @@
 use Rattle.std.proofs.Common.{◌∙◌, [], ap, nat_eq}
 use Rattle.table_source_frames.specs.Numbering.{numbered_after}
 use Rattle.table_source_frames_build.specs.FirstUses.{some_number}
-use Rattle.table_source_frames_build.specs.Kept.{location_key_at}
+use Rattle.table_source_frames_build.specs.Kept.{scope_key_at}
 use Rattle.table_source_frames_build.specs.KeptViews.{kept_view}
-use Rattle.table_source_frames_build.specs.declared.keys.LocationKey.{LocationKey}
+use Rattle.table_source_frames_build.specs.declared.keys.ScopeKey.{ScopeKey}
 use Rattle.table_source_frames_build.proofs.LoopLemmas.{after_more, after_none}
 use Rattle.table_source_frames_build.proofs.kept.Kept.used_files.Goals as goal
 
-pub loop-location-init : goal.loop-location-init
-loop-location-init c = record { count = c.in_ok-uses.ensures.count ∙ c.len.ensures; order = c.in_ok-uses.ensures.none ∙ after_none [] }
+pub loop-scope-init : goal.loop-scope-init
+loop-scope-init c = record { count = c.in_ok-uses.ensures.count ∙ c.len.ensures; order = c.in_ok-uses.ensures.none ∙ after_none [] }
 
-pub loop-location-preserved : goal.loop-location-preserved
-loop-location-preserved c = record {
-  count = c.take_some.ensures.count ∙ c.loop-location.invariant.count;
+pub loop-scope-preserved : goal.loop-scope-preserved
+loop-scope-preserved c = record {
+  count = c.take_some.ensures.count ∙ c.loop-scope.invariant.count;
   order =
-      after_more (λ n. some_number (location_key_at (kept_view c.args.self.now) n).file) c.args.locations.now
-      c.loop-location.location-index 0 [] c.loop-location.uses.order.items c.take_some.new.self.order.items
-      c.loop-location-test.true
-      (c.in_ok-take_some.ensures.taken ∙ ap (λ (key : LocationKey). numbered_after nat_eq
-      c.loop-location.uses.order.items (some_number key.file)) c.location_key_of.ensures)
-      c.loop-location.invariant.order;
+      after_more (λ n. some_number (scope_key_at (kept_view c.args.self.now) n).file) c.args.scopes.now
+      c.loop-scope.scope-index 0 [] c.loop-scope.uses.order.items c.take_some.new.self.order.items
+      c.loop-scope-test.true
+      (c.in_ok-take_some.ensures.taken ∙ ap (λ (key : ScopeKey). numbered_after nat_eq
+      c.loop-scope.uses.order.items (some_number key.file)) c.scope_key_of.ensures)
+      c.loop-scope.invariant.order;
 }

@@ -4,8 +4,8 @@ use Rattle.table_source_frames_build.specs.KeptViews.{kept_view}
 use Rattle.table_source_frames_build.specs.PartNumbers.{file_uses}
 use Rattle.table_source_frames_build.proofs.kept.Kept.used_files.Given as goal
 
-abbrev pub invariant-loop-location : goal.invariant-loop-location
-invariant-loop-location l = record {
+abbrev pub invariant-loop-scope : goal.invariant-loop-scope
+invariant-loop-scope l = record {
   count : length l.uses.given.items ≡ length (kept_view l.self).files;
-  order : l.uses.order.items ≡ numbered_after nat_eq [] (file_uses (kept_view l.self) (take l.location-index l.locations));
+  order : l.uses.order.items ≡ numbered_after nat_eq [] (file_uses (kept_view l.self) (take l.scope-index l.scopes));
 }

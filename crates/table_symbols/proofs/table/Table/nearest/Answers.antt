@@ -1,4 +1,4 @@
-use Rattle.std.proofs.Common.{◌==◌, drop, Some, None, ap, sym, subst, ◌∙◌, arith}
+use Rattle.std.proofs.Common.{◌==◌, take, drop, Some, None, ap, sym, subst, ◌∙◌, arith}
 use Rattle.std.specs.List.{before_first}
 use Rattle.table_checked_pages.specs.Pages.{AreStored}
 use Rattle.table_checked_pages.specs.Views.{claim_view}
@@ -62,9 +62,10 @@ returns-clause-read g c =
           let stands = strings_stand t c.first_string-first.result opened.fits
           (omega (arith, c.first_string-first.ensures, opened.head.sections, opened.head.rows)) in
           let pages = c.in_ok-row.ensures.keeps text (table_bytes t) known opened.pages in
-          let named = name.says text known (table_bytes t) t.strings pages stands (sym opened.head.strings) in
+          let named = name.says text known (table_bytes t) pages in
+          let strings = ap (λ n. take n (drop c.first_string-first.result (table_bytes t))) opened.head.strings ∙ stands.1 in
           some_said image c.args.address c.in-Some.row c.in_ok-name.name.items says c.if-row-eq0.false
-          (named ∙ ap (λ s. before_first (λ b. b == 0) (drop c.from.result s)) is.strings
+          (named ∙ ap (λ s. before_first (λ b. b == 0) (drop c.from.result s)) (strings ∙ is.strings)
           ∙ ap (λ n. before_first (λ b. b == 0) (drop n (strings_of image))) c.from.ensures);
       keeps = name.keeps;
       counts = name.counts;
